@@ -1,0 +1,16 @@
+-- What lent memory holds after a call: the answer in its stated places, its old contents everywhere else, and after a refusal its old
+-- contents throughout. Definitions only.
+use Prim.Native.Nat.{ℕ, zero, suc}
+use mathlib.Core.List.{List, [], _∷_}
+
+module _ {A : Type 0} where
+  -- g 0, g 1, .. g (n - 1) in the first n elements, the old contents behind them
+  abbrev pub overwrite : ℕ → (ℕ → A) → List A → List A
+  overwrite zero g old = old
+  overwrite (suc n) g [] = []
+  overwrite (suc n) g (x ∷ old) = g 0 ∷ overwrite n (λ i. g (suc i)) old
+
+  -- by the number of the call's answer
+  abbrev pub unlessRefused : ℕ → List A → List A → List A
+  unlessRefused zero new old = new
+  unlessRefused (suc number) new old = old

@@ -1,0 +1,64 @@
+-- Laws of `overwrite`: its length, its elements, and how it grows by one.
+use Prim.Native.Nat.{ℕ, zero, suc, _+_, _≤_, _<_}
+use mathlib.Core.Path.{_≡_, refl, ap, ap₂}
+use mathlib.Core.List.{List, [], _∷_}
+use native.Mathlib.Nat.{le-of-suc-le-suc, not-suc-le-zero}
+use native.Mathlib.Numerals.{add-one}
+use native.Mathlib.Omega.{arith}
+use lib.ListN.{length, getD, set}
+use Rattle.calls.specs.Memory.{overwrite}
+
+module _ {A : Type 0} where
+  pub length-overwrite : (n : ℕ) (g : ℕ → A) (l : List A) → length (overwrite n g l) ≡ length l
+  length-overwrite zero g l = refl
+  length-overwrite (suc n) g [] = refl
+  length-overwrite (suc n) g (x ∷ l) = ap suc (length-overwrite n (λ i. g (suc i)) l)
+
+  -- an element that is written, and one behind those
+  pub overwrite-at : (n : ℕ) (g : ℕ → A) (l : List A) (i : ℕ) (z : A) → i < n → i < length l → getD (overwrite n g l) i z ≡ g i
+  overwrite-at zero g l i z h k = absurd (not-suc-le-zero h)
+  overwrite-at (suc n) g [] i z h k = absurd (not-suc-le-zero k)
+  overwrite-at (suc n) g (x ∷ l) zero z h k = refl
+  overwrite-at (suc n) g (x ∷ l) (suc i) z h k =
+      overwrite-at n (λ j. g (suc j)) l i z (le-of-suc-le-suc h) (le-of-suc-le-suc k)
+
+  pub overwrite-behind : (n : ℕ) (g : ℕ → A) (l : List A) (i : ℕ) (z : A) → n ≤ i → getD (overwrite n g l) i z ≡ getD l i z
+  overwrite-behind zero g l i z h = refl
+  overwrite-behind (suc n) g [] i z h = refl
+  overwrite-behind (suc n) g (x ∷ l) zero z h = absurd (not-suc-le-zero h)
+  overwrite-behind (suc n) g (x ∷ l) (suc i) z h = overwrite-behind n (λ j. g (suc j)) l i z (le-of-suc-le-suc h)
+
+  -- one element more: by a store, and where it is right as it stands
+  pub overwrite-store : (n : ℕ) (g : ℕ → A) (l : List A) → n < length l → set (overwrite n g l) n (g n) ≡ overwrite (suc n) g l
+  overwrite-store n g [] h = absurd (not-suc-le-zero h)
+  overwrite-store zero g (x ∷ l) h = refl
+  overwrite-store (suc n) g (x ∷ l) h =
+      ap (λ (r : List A). g 0 ∷ r) (overwrite-store n (λ i. g (suc i)) l (le-of-suc-le-suc h))
+
+  pub overwrite-keep : (n : ℕ) (g : ℕ → A) (l : List A) (z : A) → (n < length l → getD l n z ≡ g n)
+      → overwrite n g l ≡ overwrite (suc n) g l
+  overwrite-keep zero g [] z h = refl
+  overwrite-keep (suc n) g [] z h = refl
+  overwrite-keep zero g (x ∷ l) z h = ap (λ (y : A). y ∷ l) (h (omega arith))
+  overwrite-keep (suc n) g (x ∷ l) z h =
+      ap (λ (r : List A). g 0 ∷ r) (overwrite-keep n (λ i. g (suc i)) l z (λ k. h (omega arith)))
+
+  -- only the values below n count; the later of two overwrites stands; overwritten by its own elements a list stays as it is
+  pub overwrite-same : (n : ℕ) (g h : ℕ → A) (l : List A) → ((i : ℕ) → i < n → i < length l → g i ≡ h i)
+      → overwrite n g l ≡ overwrite n h l
+  overwrite-same zero g h l e = refl
+  overwrite-same (suc n) g h [] e = refl
+  overwrite-same (suc n) g h (x ∷ l) e =
+      ap₂ (λ (y : A) (r : List A). y ∷ r) (e 0 (omega arith) (omega arith))
+      (overwrite-same n (λ i. g (suc i)) (λ i. h (suc i)) l (λ i k q. e (suc i) (omega arith) (omega arith)))
+
+  pub overwrite-twice : (n : ℕ) (g h : ℕ → A) (l : List A) → overwrite n g (overwrite n h l) ≡ overwrite n g l
+  overwrite-twice zero g h l = refl
+  overwrite-twice (suc n) g h [] = refl
+  overwrite-twice (suc n) g h (x ∷ l) =
+      ap (λ (r : List A). g 0 ∷ r) (overwrite-twice n (λ i. g (suc i)) (λ i. h (suc i)) l)
+
+  pub overwrite-own : (n : ℕ) (l : List A) (z : A) → overwrite n (λ i. getD l i z) l ≡ l
+  overwrite-own zero l z = refl
+  overwrite-own (suc n) [] z = refl
+  overwrite-own (suc n) (x ∷ l) z = ap (λ (r : List A). x ∷ r) (overwrite-own n l z)

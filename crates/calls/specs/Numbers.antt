@@ -1,0 +1,41 @@
+-- Document 01, "Numbers by who causes them": the number of each refusal, and which of several is returned. Definitions only.
+use Prim.Native.Nat.{ℕ}
+use mathlib.Core.Bool.{Bool, true, false, _&&_}
+use lib.Dec.{leb}
+use Rattle.calls.specs.declared.Refusal.{Refusal}
+use Rattle.calls.specs.declared.Refusal.the-variants.{
+  BlockLength,
+  Ceiling,
+  ShortSlice,
+  MaskValue,
+  NoInformation,
+  ChannelFactor,
+  SampleNotFinite,
+  MessageBit,
+}
+use Rattle.calls.specs.declared.Answer.{Answer}
+use Rattle.calls.specs.declared.Answer.the-variants.{Done, Refused}
+
+abbrev pub refusalNumber : Refusal → ℕ
+refusalNumber BlockLength = 1
+refusalNumber Ceiling = 2
+refusalNumber ShortSlice = 7
+refusalNumber MaskValue = 8
+refusalNumber NoInformation = 9
+refusalNumber ChannelFactor = 11
+refusalNumber SampleNotFinite = 12
+refusalNumber MessageBit = 13
+
+-- the number of an answer; 0, which is no refusal's number, stands for an accepted call
+abbrev pub numberOf : Answer → ℕ
+numberOf Done = 0
+numberOf (Refused r) = refusalNumber r
+
+-- a test that refuses with a number where it fails; a chain of them gives the number of the first that fails, and 0 where all pass
+abbrev pub check : Bool → ℕ → ℕ → ℕ
+check true number next = next
+check false number next = number
+
+-- from low to high, both included
+abbrev pub between : ℕ → ℕ → ℕ → Bool
+between low high n = leb low n && leb n high

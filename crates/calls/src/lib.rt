@@ -1,0 +1,41 @@
+// What every call of the library shares: its answer, the number that document 01 gives a refusal, and (in specs/) what
+// lent memory holds after the call. It sees no other crate. It promises that each answer has one number, 0 or a refusal's.
+ghost use mathlib.Core.Path.{_≡_};
+ghost use Rattle.calls.specs.Numbers.{numberOf};
+
+// Why a call is refused, in the order of the numbers.
+pub enum Refusal {
+    BlockLength,
+    Ceiling,
+    ShortSlice,
+    MaskValue,
+    NoInformation,
+    ChannelFactor,
+    SampleNotFinite,
+    MessageBit,
+}
+
+// The answer of a call whose results all stand in lent memory.
+pub enum Answer {
+    Done,
+    Refused(Refusal),
+}
+
+// The number of an answer, for callers in other languages: 0, or the refusal's number.
+pub fn number(answer: Answer) -> u32
+    ensures { λ r. ⌜ r ≡ numberOf answer ⌝ }
+{
+    match answer {
+        Answer::Done => 0,
+        Answer::Refused(refusal) => match refusal {
+            Refusal::BlockLength => 1,
+            Refusal::Ceiling => 2,
+            Refusal::ShortSlice => 7,
+            Refusal::MaskValue => 8,
+            Refusal::NoInformation => 9,
+            Refusal::ChannelFactor => 11,
+            Refusal::SampleNotFinite => 12,
+            Refusal::MessageBit => 13,
+        },
+    }
+}
