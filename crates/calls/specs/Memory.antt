@@ -10,6 +10,12 @@ module _ {A : Type 0} where
   overwrite (suc n) g [] = []
   overwrite (suc n) g (x ∷ old) = g 0 ∷ overwrite n (λ i. g (suc i)) old
 
+  -- the same from element a on
+  abbrev pub overwriteFrom : ℕ → ℕ → (ℕ → A) → List A → List A
+  overwriteFrom zero n g old = overwrite n g old
+  overwriteFrom (suc a) n g [] = []
+  overwriteFrom (suc a) n g (x ∷ old) = x ∷ overwriteFrom a n g old
+
   -- by the number of the call's answer
   abbrev pub unlessRefused : ℕ → List A → List A → List A
   unlessRefused zero new old = new

@@ -1,12 +1,11 @@
 -- Laws of `overwrite`: its length, its elements, and how it grows by one.
 use Prim.Native.Nat.{ℕ, zero, suc, _+_, _≤_, _<_}
-use mathlib.Core.Path.{_≡_, refl, ap, ap₂}
+use mathlib.Core.Path.{_≡_, refl, ap, ap₂, _∙_}
 use mathlib.Core.List.{List, [], _∷_}
-use native.Mathlib.Nat.{le-of-suc-le-suc, not-suc-le-zero}
-use native.Mathlib.Numerals.{add-one}
+use native.Mathlib.Nat.{le-of-suc-le-suc, not-suc-le-zero, add-zero, add-suc, zero-add, suc-add}
 use native.Mathlib.Omega.{arith}
 use lib.ListN.{length, getD, set}
-use Rattle.calls.specs.Memory.{overwrite}
+use Rattle.calls.specs.Memory.{overwrite, overwriteFrom}
 
 module _ {A : Type 0} where
   pub length-overwrite : (n : ℕ) (g : ℕ → A) (l : List A) → length (overwrite n g l) ≡ length l
@@ -43,6 +42,13 @@ module _ {A : Type 0} where
   overwrite-keep (suc n) g (x ∷ l) z h =
       ap (λ (r : List A). g 0 ∷ r) (overwrite-keep n (λ i. g (suc i)) l z (λ k. h (omega arith)))
 
+  pub overwrite-keeps : (n k : ℕ) (g : ℕ → A) (l : List A) (z : A) → ((i : ℕ) → n ≤ i → i < n + k → getD l i z ≡ g i)
+      → overwrite n g l ≡ overwrite (n + k) g l
+  overwrite-keeps n zero g l z h = rw add-zero
+  overwrite-keeps n (suc k) g l z h =
+      overwrite-keeps n k g l z (λ i p q. h i p (omega arith))
+      ∙ rw add-suc (overwrite-keep (n + k) g l z (λ q. h (n + k) (omega arith) (omega arith)))
+
   -- only the values below n count; the later of two overwrites stands; overwritten by its own elements a list stays as it is
   pub overwrite-same : (n : ℕ) (g h : ℕ → A) (l : List A) → ((i : ℕ) → i < n → i < length l → g i ≡ h i)
       → overwrite n g l ≡ overwrite n h l
@@ -62,3 +68,37 @@ module _ {A : Type 0} where
   overwrite-own zero l z = refl
   overwrite-own (suc n) [] z = refl
   overwrite-own (suc n) (x ∷ l) z = ap (λ (r : List A). x ∷ r) (overwrite-own n l z)
+
+  -- ---- from element a on
+
+  pub length-overwriteFrom : (a n : ℕ) (g : ℕ → A) (l : List A) → length (overwriteFrom a n g l) ≡ length l
+  length-overwriteFrom zero n g l = length-overwrite n g l
+  length-overwriteFrom (suc a) n g [] = refl
+  length-overwriteFrom (suc a) n g (x ∷ l) = ap suc (length-overwriteFrom a n g l)
+
+  pub overwriteFrom-none : (a : ℕ) (g : ℕ → A) (l : List A) → overwriteFrom a 0 g l ≡ l
+  overwriteFrom-none zero g l = refl
+  overwriteFrom-none (suc a) g [] = refl
+  overwriteFrom-none (suc a) g (x ∷ l) = ap (λ (r : List A). x ∷ r) (overwriteFrom-none a g l)
+
+  pub overwriteFrom-behind : (a n : ℕ) (g : ℕ → A) (l : List A) (i : ℕ) (z : A) → a + n ≤ i
+      → getD (overwriteFrom a n g l) i z ≡ getD l i z
+  overwriteFrom-behind zero n g l i z h = overwrite-behind n g l i z (omega arith)
+  overwriteFrom-behind (suc a) n g [] i z h = refl
+  overwriteFrom-behind (suc a) n g (x ∷ l) zero z h = absurd (omega arith)
+  overwriteFrom-behind (suc a) n g (x ∷ l) (suc i) z h = overwriteFrom-behind a n g l i z (omega arith)
+
+  pub overwriteFrom-store : (a n : ℕ) (g : ℕ → A) (l : List A) → a + n < length l
+      → set (overwriteFrom a n g l) (a + n) (g n) ≡ overwriteFrom a (suc n) g l
+  overwriteFrom-store zero n g l h = rw zero-add (overwrite-store n g l (omega arith))
+  overwriteFrom-store (suc a) n g [] h = absurd (not-suc-le-zero h)
+  overwriteFrom-store (suc a) n g (x ∷ l) h = rw suc-add (ap (λ (r : List A). x ∷ r) (overwriteFrom-store a n g l (omega arith)))
+
+  -- k elements more, behind the first n
+  pub overwrite-more : (n k : ℕ) (f g : ℕ → A) (l : List A) → ((i : ℕ) → i < k → f i ≡ g (n + i))
+      → overwriteFrom n k f (overwrite n g l) ≡ overwrite (n + k) g l
+  overwrite-more zero k f g l h = rw zero-add (overwrite-same k f g l (λ i q r. h i q ∙ ap g (zero-add i)))
+  overwrite-more (suc n) k f g [] h = rw suc-add
+  overwrite-more (suc n) k f g (x ∷ l) h =
+      rw suc-add
+      (ap (λ (r : List A). g 0 ∷ r) (overwrite-more n k f (λ i. g (suc i)) l (λ i q. h i q ∙ ap g (suc-add n i))))

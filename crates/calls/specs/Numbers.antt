@@ -1,5 +1,5 @@
 -- Document 01, "Numbers by who causes them": the number of each refusal, and which of several is returned. Definitions only.
-use Prim.Native.Nat.{ℕ}
+use Prim.Native.Nat.{ℕ, zero, suc}
 use mathlib.Core.Bool.{Bool, true, false, _&&_}
 use lib.Dec.{leb}
 use Rattle.calls.specs.declared.Refusal.{Refusal}
@@ -35,6 +35,11 @@ numberOf (Refused r) = refusalNumber r
 abbrev pub check : Bool → ℕ → ℕ → ℕ
 check true number next = next
 check false number next = number
+
+-- two groups of tests: the number of the first, or, where it passes, that of the second
+abbrev pub andThen : ℕ → ℕ → ℕ
+andThen zero next = next
+andThen (suc number) next = suc number
 
 -- from low to high, both included
 abbrev pub between : ℕ → ℕ → ℕ → Bool

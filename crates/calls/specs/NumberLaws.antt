@@ -1,0 +1,56 @@
+-- What an accepted call tells of its tests, and that no refusal's number is 0.
+use Prim.Native.Nat.{ℕ, zero, suc, _≤_}
+use mathlib.Core.Path.{_≡_, refl}
+use mathlib.Core.List.{List}
+use mathlib.Core.Bool.{Bool, true, false, _&&_}
+use native.Mathlib.Omega.{arith}
+use lib.Dec.{leb}
+use borrow.Author.Tests.{leb-true}
+use Rattle.calls.specs.declared.Refusal.{Refusal}
+use Rattle.calls.specs.declared.Refusal.the-variants.{
+  BlockLength,
+  Ceiling,
+  ShortSlice,
+  MaskValue,
+  NoInformation,
+  ChannelFactor,
+  SampleNotFinite,
+  MessageBit,
+}
+use Rattle.calls.specs.Memory.{unlessRefused}
+use Rattle.calls.specs.Numbers.{refusalNumber, check, andThen, between}
+
+-- no refusal's number is 0
+refusal-number : (r : Refusal) {A : Type 0} → ((n : ℕ) → refusalNumber r ≡ suc n → A) → A
+refusal-number BlockLength f = f 0 refl
+refusal-number Ceiling f = f 1 refl
+refusal-number ShortSlice f = f 6 refl
+refusal-number MaskValue f = f 7 refl
+refusal-number NoInformation f = f 8 refl
+refusal-number ChannelFactor f = f 10 refl
+refusal-number SampleNotFinite f = f 11 refl
+refusal-number MessageBit f = f 12 refl
+
+pub refused-first : (r : Refusal) (next : ℕ) → andThen (refusalNumber r) next ≡ refusalNumber r
+refused-first r next = refusal-number r (λ n e. rw e)
+
+pub refused-keeps : {A : Type 0} (r : Refusal) (new old : List A) → unlessRefused (refusalNumber r) new old ≡ old
+refused-keeps r new old = refusal-number r (λ n e. rw e)
+
+pub check-passed : (test : Bool) (number next : ℕ) → check test (suc number) next ≡ 0 → (test ≡ true) × (next ≡ 0)
+check-passed true number next h = (refl, h)
+check-passed false number next h = absurd (omega arith)
+
+pub both-passed : (first next : ℕ) → andThen first next ≡ 0 → (first ≡ 0) × (next ≡ 0)
+both-passed zero next h = (refl, h)
+both-passed (suc number) next h = absurd (omega arith)
+
+pub and-passed : (a b : Bool) → a && b ≡ true → (a ≡ true) × (b ≡ true)
+and-passed true true h = (refl, refl)
+and-passed true false h = (refl, h)
+and-passed false b h = (h, cc)
+
+pub between-passed : (low high n : ℕ) → between low high n ≡ true → (low ≤ n) × (n ≤ high)
+between-passed low high n h =
+    let both = and-passed (leb low n) (leb n high) h in
+    (leb-true low n (both .0), leb-true n high (both .1))

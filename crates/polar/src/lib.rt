@@ -1,0 +1,241 @@
+// The polar code: a message becomes a block of N = 2^m coded bits, and bytes at the information positions are read out again.
+// It sees `calls` alone. It promises document 01's closed form for every coded bit, and the number and the exact condition of each refusal.
+ghost use mathlib.Core.Path.{_≡_};
+ghost use Prim.Native.Nat.{_+_, _<_, _≤_, _^_, max};
+ghost use lib.ListN.{length, getD};
+ghost use Rattle.calls.specs.Numbers.{numberOf};
+ghost use Rattle.calls.specs.Memory.{overwrite, overwriteFrom};
+ghost use Rattle.polar.specs.Code.{byteOf, informationCount, uBit, coded, informationBytes, areBits, codeNumber, messageNumber, encodeNumber, encodeBlock, readOutNumber, readOutMessage};
+ghost use Rattle.polar.specs.Columns.{step};
+ghost use Rattle.polar.specs.CodeLaws.{MessageAccepted};
+ghost use Rattle.polar.specs.BlockLaws.{bitsOf, Bits};
+ghost use lib.Bits.{bitXor};
+use calls::Answer;
+use calls::Refusal;
+
+// The settings of a code. Coder and read-out take them by value, so that a later setting joins them here.
+pub struct Code {
+    pub m: u32,
+}
+
+// N from m, and a distance from the digit that it stands for.
+fn power_of_two(k: u32) -> usize
+    requires { ⌜ k ≤ 10 ⌝ }
+    ensures { λ r. ⌜ r ≡ 2 ^ k ⌝ }
+{
+    1 << k
+}
+
+fn larger(a: u8, b: u8) -> u8
+    ensures { λ r. ⌜ r ≡ max a b ⌝ }
+{
+    if a < b { b } else { a }
+}
+
+// Whether the first n bytes are 0 or 1. It keeps their maximum, which needs no branch.
+fn are_bits(bytes: &[u8], n: usize) -> bool
+    requires { ⌜ n ≤ length (now bytes) ⌝ }
+    ensures { λ r. ⌜ r ≡ areBits n (now (bytes .entry)) ⌝ }
+{
+    let mut most = 0;
+    let mut i = 0;
+    while i < n {
+        most = larger(most, bytes[i]);
+        i += 1;
+    }
+    most <= 1
+}
+
+// How many of the first n positions are information positions.
+fn information_count(mask: &[u8], n: usize) -> usize
+    requires { ⌜ n ≤ length (now mask) ⌝ }
+    ensures { λ r. ⌜ r ≡ informationCount (now (mask .entry)) n ⌝ }
+{
+    let mut count = 0;
+    let mut i = 0;
+    while i < n {
+        if mask[i] == 0 {
+            count += 1;
+        }
+        i += 1;
+    }
+    count
+}
+
+// The tests that the coder and the read-out share: 1; 7, the mask or the slice of N elements beside it; 8; 9.
+fn code_refusal(code: Code, mask: &[u8], room: usize) -> Answer
+    ensures { λ r. ⌜ numberOf r ≡ codeNumber code (now (mask .entry)) room ⌝ }
+{
+    let m = code.m;
+    if m < 1 {
+        return Answer::Refused(Refusal::BlockLength);
+    }
+    if 10 < m {
+        return Answer::Refused(Refusal::BlockLength);
+    }
+    let n = power_of_two(m);
+    if mask.len() < n {
+        return Answer::Refused(Refusal::ShortSlice);
+    }
+    if room < n {
+        return Answer::Refused(Refusal::ShortSlice);
+    }
+    if !are_bits(mask, n) {
+        return Answer::Refused(Refusal::MaskValue);
+    }
+    if information_count(mask, n) == 0 {
+        return Answer::Refused(Refusal::NoInformation);
+    }
+    Answer::Done
+}
+
+// The tests of a message for K information positions: 7; 13.
+fn message_refusal(message: &[u8], count: usize) -> Answer
+    ensures { λ r. ⌜ numberOf r ≡ messageNumber (now (message .entry)) count ⌝ }
+{
+    if message.len() < count {
+        return Answer::Refused(Refusal::ShortSlice);
+    }
+    if !are_bits(message, count) {
+        return Answer::Refused(Refusal::MessageBit);
+    }
+    Answer::Done
+}
+
+// Every test of the coder. It writes nothing.
+fn encode_refusal(code: Code, mask: &[u8], message: &[u8], room: usize) -> Answer
+    ensures { λ r. ⌜ numberOf r ≡ encodeNumber code (now (mask .entry)) (now (message .entry)) room ⌝ }
+{
+    match code_refusal(code, mask, room) {
+        Answer::Refused(refusal) => Answer::Refused(refusal),
+        Answer::Done => {
+            let m = code.m;
+            message_refusal(message, information_count(mask, power_of_two(m)))
+        }
+    }
+}
+
+// u: the message bits in the information positions of the first n elements, 0 in the frozen ones.
+fn place(mask: &[u8], message: &[u8], n: usize, block: &mut [u8])
+    requires { ⌜ (n ≤ length (now mask)) × (n ≤ length (now block)) ⌝ }
+    requires { ⌜ MessageAccepted (now message) (informationCount (now mask) n) ⌝ }
+    ensures { λ _. ⌜ now (block .exit) ≡ overwrite n (λ i. byteOf (uBit (now (mask .entry)) (now (message .entry)) i)) (now (block .entry)) ⌝ }
+{
+    let mut used = 0;
+    let mut i = 0;
+    while i < n {
+        if mask[i] == 0 {
+            block[i] = message[used];
+            used += 1;
+        } else {
+            block[i] = 0;
+        }
+        i += 1;
+    }
+}
+
+// The run of d positions from p on takes the exclusive-or with the run of d behind it.
+fn join(block: &mut [u8], p: usize, d: usize)
+    requires { ⌜ p + d + d ≤ length (now block) ⌝ }
+    ensures { λ _. ⌜ now (block .exit) ≡ overwriteFrom p d (λ i. bitXor (getD (now (block .entry)) (p + i) 0) (getD (now (block .entry)) (p + d + i) 0)) (now (block .entry)) ⌝ }
+{
+    let mut i = 0;
+    while i < d {
+        block[p + i] = block[p + i] ^ block[p + d + i];
+        i += 1;
+    }
+}
+
+// One step, over the distance d = 2^t. The positions go in runs of d, and the mask test chooses the upper ones.
+fn butterflies(block: &mut [u8], m: u32, t: u32)
+    requires { ⌜ (m ≤ 10) × (t < m) ⌝ }
+    requires { ⌜ Bits (2 ^ m) (now block) ⌝ }
+    ensures { λ _. ⌜ now (block .exit) ≡ overwrite (2 ^ m) (λ i. byteOf (step t (bitsOf (now (block .entry))) i)) (now (block .entry)) ⌝ }
+{
+    let n = power_of_two(m);
+    let d = power_of_two(t);
+    let mut p = 0;
+    while p < n {
+        if p & d == 0 {
+            join(block, p, d);
+        }
+        p += d;
+    }
+}
+
+// The coded bits of the first 2^m elements, in place: m steps, from the distance 2^(m-1) down to 1.
+fn transform(block: &mut [u8], m: u32)
+    requires { ⌜ m ≤ 10 ⌝ }
+    requires { ⌜ Bits (2 ^ m) (now block) ⌝ }
+    ensures { λ _. ⌜ now (block .exit) ≡ overwrite (2 ^ m) (λ i. byteOf (coded m (bitsOf (now (block .entry))) i)) (now (block .entry)) ⌝ }
+{
+    let mut s = 0;
+    while s < m {
+        butterflies(block, m, m - 1 - s);
+        s += 1;
+    }
+}
+
+// The message, coded, in the first 2^m elements of the block.
+pub fn encode(code: Code, mask: &[u8], message: &[u8], block: &mut [u8]) -> Answer
+    ensures { λ r. ⌜ numberOf r ≡ encodeNumber code (now (mask .entry)) (now (message .entry)) (length (now (block .entry))) ⌝ }
+    ensures { λ r. ⌜ now (block .exit) ≡ encodeBlock code (now (mask .entry)) (now (message .entry)) (now (block .entry)) ⌝ }
+{
+    match encode_refusal(code, mask, message, block.len()) {
+        Answer::Refused(refusal) => Answer::Refused(refusal),
+        Answer::Done => {
+            let m = code.m;
+            place(mask, message, power_of_two(m), block);
+            transform(block, m);
+            Answer::Done
+        }
+    }
+}
+
+// Every test of the read-out. It writes nothing.
+fn read_out_refusal(code: Code, mask: &[u8], bytes: &[u8], room: usize) -> Answer
+    ensures { λ r. ⌜ numberOf r ≡ readOutNumber code (now (mask .entry)) (now (bytes .entry)) room ⌝ }
+{
+    match code_refusal(code, mask, bytes.len()) {
+        Answer::Refused(refusal) => Answer::Refused(refusal),
+        Answer::Done => {
+            let m = code.m;
+            if room < information_count(mask, power_of_two(m)) {
+                Answer::Refused(Refusal::ShortSlice)
+            } else {
+                Answer::Done
+            }
+        }
+    }
+}
+
+// The bytes at the information positions of the first n, one behind the other.
+fn gather(mask: &[u8], bytes: &[u8], n: usize, message: &mut [u8])
+    requires { ⌜ (n ≤ length (now mask)) × (n ≤ length (now bytes)) × (informationCount (now mask) n ≤ length (now message)) ⌝ }
+    ensures { λ _. ⌜ now (message .exit) ≡ overwrite (informationCount (now (mask .entry)) n) (λ k. getD (informationBytes (now (mask .entry)) (now (bytes .entry)) n) k 0) (now (message .entry)) ⌝ }
+{
+    let mut count = 0;
+    let mut i = 0;
+    while i < n {
+        if mask[i] == 0 {
+            message[count] = bytes[i];
+            count += 1;
+        }
+        i += 1;
+    }
+}
+
+// The bytes at the information positions, in rising order, in the first K elements of the message.
+pub fn read_out(code: Code, mask: &[u8], bytes: &[u8], message: &mut [u8]) -> Answer
+    ensures { λ r. ⌜ numberOf r ≡ readOutNumber code (now (mask .entry)) (now (bytes .entry)) (length (now (message .entry))) ⌝ }
+    ensures { λ r. ⌜ now (message .exit) ≡ readOutMessage code (now (mask .entry)) (now (bytes .entry)) (now (message .entry)) ⌝ }
+{
+    match read_out_refusal(code, mask, bytes, message.len()) {
+        Answer::Refused(refusal) => Answer::Refused(refusal),
+        Answer::Done => {
+            let m = code.m;
+            gather(mask, bytes, power_of_two(m), message);
+            Answer::Done
+        }
+    }
+}
