@@ -2,3 +2,5 @@ pub mod Numbers
 pub mod Memory
 pub mod MemoryLaws
 pub mod NumberLaws
+pub mod Signs
+pub mod SignLaws

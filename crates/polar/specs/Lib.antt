@@ -5,3 +5,5 @@ pub mod TransformLaws
 pub mod CodeLaws
 pub mod DigitLaws
 pub mod BlockLaws
+pub mod CoderLaws
+pub mod Cases

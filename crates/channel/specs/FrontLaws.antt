@@ -1,0 +1,228 @@
+-- Laws of the front's definitions, each for every float and every channel: `nearest` is the nearest whole number; an LLR is no larger than
+-- the ceiling and odd in its sample; samples negated at some places give the same number and the LLRs negated at those places.
+use Prim.Native.Nat.{ℕ, zero, suc, _+_, _*_, _/_, _^_, _≤_, _<_, zero-le}
+use mathlib.Core.Path.{_≡_, refl, sym, ap, ap₂, _∙_}
+use mathlib.Core.Bool.{Bool, true, false, not, _&&_, cond}
+use mathlib.Core.List.{List, [], _∷_}
+use native.Mathlib.Nat.{le-refl, mul-pos, zero-lt-suc, not-suc-le-zero, mul-div-le, lt-mul-div-succ, le-of-suc-le-suc, div-lt-iff-lt-mul, le-div-iff-mul-le}
+use native.Mathlib.Numerals.{add-one}
+use native.Mathlib.Omega.{arith}
+use lib.Dec.{leb, ltb, eqb}
+use lib.IntN.{ℤ, pos, negsuc, negℤ, negℤ-negℤ, natAbs}
+use lib.Signed.{mag}
+use lib.ListN.{length, getD}
+use lib.Ieee.{Float, nan, inf, fin, Format, binary32, prec, emax, low, up, down, unlike, odd, units, round, neg, mul}
+use lib.Ieee.Fits.{down-pos}
+use lib.Ieee.Nearest.{div-same}
+use borrow.Author.Tests.{leb-true, leb-false, le-leb, lt-leb}
+use Rattle.calls.specs.Memory.{overwrite, unlessRefused}
+use Rattle.calls.specs.Signs.{flipped}
+use Rattle.calls.specs.MemoryLaws.{length-overwrite, overwrite-same}
+use Rattle.channel.specs.Front.{
+  withSign,
+  valueOf,
+  nearest,
+  roundedSize,
+  signed,
+  quantised,
+  llrOf,
+  isFinite,
+  allFinite,
+  frontNumber,
+  frontLlrs,
+}
+use Rattle.channel.specs.Negated.{negatedIf, negated}
+use Rattle.channel.specs.declared.Channel.{Channel}
+use Rattle.channel.specs.declared.Channel.the-variants.{Gaussian, Flipping, Erasing}
+
+-- ---- the whole number of a size
+
+-- with N for `nearest n d`: N - 1/2 ≤ n / d < N + 1/2, so a half goes up
+pub nearest-is : (n d : ℕ) → 0 < d → (2 * d * nearest n d ≤ 2 * n + d) × (2 * n + d < 2 * d * suc (nearest n d))
+nearest-is n d h =
+    (mul-div-le (2 * n + d) (2 * d), rw add-one at (lt-mul-div-succ (2 * n + d) {b = 2 * d} (mul-pos (zero-lt-suc 1) h)))
+
+pub rounded-bound : (C n d : ℕ) → 0 < d → roundedSize C n d ≤ C
+rounded-bound C n d h = by-test (leb (C * d) n) refl
+  where
+    below : n < C * d → 2 * n + d < suc C * (2 * d)
+    below l = omega arith
+
+    by-test : (b : Bool) → leb (C * d) n ≡ b → cond b C (nearest n d) ≤ C
+    by-test true e = le-refl C
+    by-test false e = le-of-suc-le-suc (div-lt-iff-lt-mul {k = 2 * d} (mul-pos (zero-lt-suc 1) h) .1 (below (leb-false (C * d) n e)))
+
+-- whether the size reaches the ceiling, and its whole number, depend only on the value of the fraction
+pub reaches : (C n d : ℕ) → 0 < d → leb (C * d) n ≡ leb C (n / d)
+reaches C n d h = by-test (leb C (n / d)) refl
+  where
+    by-test : (b : Bool) → leb C (n / d) ≡ b → leb (C * d) n ≡ b
+    by-test true e = le-leb (C * d) n (le-div-iff-mul-le h .0 (leb-true C (n / d) e))
+    by-test false e = lt-leb (C * d) n (div-lt-iff-lt-mul h .0 (leb-false C (n / d) e))
+
+pub rounded-same : (C a b c d : ℕ) → 0 < b → 0 < d → a * d ≡ c * b → roundedSize C a b ≡ roundedSize C c d
+rounded-same C a b c d p q e =
+    ap₂ (λ (t : Bool) (n : ℕ). cond t C n)
+    (reaches C a b p ∙ ap (leb C) (div-same a b c d p q e) ∙ sym (reaches C c d q))
+    (div-same (2 * a + b) (2 * b) (2 * c + d) (2 * d) (mul-pos (zero-lt-suc 1) p) (mul-pos (zero-lt-suc 1) q) (omega arith))
+
+pub rounded-zero : (C : ℕ) → roundedSize C 0 1 ≡ 0
+rounded-zero zero = refl
+rounded-zero (suc C) = simp (lt-leb (suc C * 1) 0 (omega arith))
+
+-- ---- no LLR is larger than the ceiling
+
+signed-bound : (s : Bool) (n C : ℕ) → n ≤ C → natAbs (signed s n) ≤ C
+signed-bound false n C h = h
+signed-bound true zero C h = zero-le
+signed-bound true (suc n) C h = h
+
+pub quantised-bound : (C : ℕ) (value : Float) → natAbs (quantised C value) ≤ C
+unfolding quantised
+quantised-bound C nan = zero-le
+quantised-bound C (inf s) = signed-bound s C C (le-refl C)
+quantised-bound C (fin s m e) = signed-bound s _ C (rounded-bound C (m * up e) (down e) (down-pos e))
+
+mag-le : (z : ℤ) → mag z ≤ natAbs z
+mag-le (pos n) = le-refl n
+mag-le (negsuc n) = omega arith
+
+pub quantised-mag : (C : ℕ) (value : Float) → mag (quantised C value) ≤ C
+quantised-mag C value = omega (arith, mag-le (quantised C value), quantised-bound C value)
+
+-- both sizes of an integer that the library has: its absolute value, and `mag`, which is one less below zero
+pub llr-size : (C : ℕ) (channel : Channel) (x : Float) → natAbs (llrOf C channel x) ≤ C
+llr-size C channel x = quantised-bound C (valueOf C channel x)
+
+pub llr-bound : (C : ℕ) (channel : Channel) (x : Float) → mag (llrOf C channel x) ≤ C
+llr-bound C channel x = quantised-mag C (valueOf C channel x)
+
+-- ---- a sample negated gives the LLR negated
+
+signed-odd : (s : Bool) (n : ℕ) → signed (not s) n ≡ negℤ (signed s n)
+signed-odd false n = refl
+signed-odd true n = sym (negℤ-negℤ (pos n))
+
+pub quantised-odd : (C : ℕ) (value : Float) → quantised C (neg value) ≡ negℤ (quantised C value)
+unfolding quantised neg
+quantised-odd C nan = refl
+quantised-odd C (inf s) = signed-odd s C
+quantised-odd C (fin s m e) = signed-odd s (roundedSize C (m * up e) (down e))
+
+-- the sign of a product goes through its rounding
+cond-neg : (b : Bool) (x y x′ y′ : Float) → x′ ≡ neg x → y′ ≡ neg y → cond b x′ y′ ≡ neg (cond b x y)
+cond-neg true x y x′ y′ p q = p
+cond-neg false x y x′ y′ p q = q
+
+odd-neg : (d : ℕ) (s : Bool) (q k l : ℕ) → odd d (not s) q k l ≡ neg (odd d s q k l)
+unfolding odd neg
+odd-neg d s zero k l = refl
+odd-neg d s (suc q) k l = refl
+
+units-neg : (f : Format) (s : Bool) (q k : ℕ) → units f (not s) q k ≡ neg (units f s q k)
+unfolding units neg
+units-neg f s q k =
+    cond-neg (ltb (q * 2 ^ k) (2 ^ (low f + suc (emax f)))) (odd (suc (prec f)) s q k (low f)) (inf s) _ (inf (not s))
+    (odd-neg (suc (prec f)) s q k (low f)) refl
+
+round-neg : (f : Format) (s : Bool) (n d : ℕ) → round f (not s) n d ≡ neg (round f s n d)
+unfolding round
+round-neg f s n d = units-neg f s _ _
+
+unlike-not : (s t : Bool) → unlike (not s) t ≡ not (unlike s t)
+unlike-not true true = refl
+unlike-not true false = refl
+unlike-not false true = refl
+unlike-not false false = refl
+
+infinite-neg : (b s t : Bool) → cond b nan (inf (unlike (not s) t)) ≡ neg (cond b nan (inf (unlike s t)))
+unfolding neg
+infinite-neg true s t = refl
+infinite-neg false s t = ap inf (unlike-not s t)
+
+pub mul-neg : (f : Format) (x y : Float) → mul f (neg x) y ≡ neg (mul f x y)
+unfolding mul neg
+mul-neg f nan y = refl
+mul-neg f (inf s) nan = refl
+mul-neg f (inf s) (inf t) = ap inf (unlike-not s t)
+mul-neg f (inf s) (fin t n d) = infinite-neg (eqb n 0) s t
+mul-neg f (fin s m e) nan = refl
+mul-neg f (fin s m e) (inf t) = infinite-neg (eqb m 0) s t
+mul-neg f (fin s m e) (fin t n d) =
+    ap (λ (b : Bool). round f b (m * up e * (n * up d)) (down e * down d)) (unlike-not s t)
+    ∙ round-neg f (unlike s t) (m * up e * (n * up d)) (down e * down d)
+
+either-odd : (C : ℕ) (s : Bool) (size : Float) → quantised C (cond (not s) (neg size) size) ≡ negℤ (quantised C (cond s (neg size) size))
+either-odd C true size = sym (ap negℤ (quantised-odd C size) ∙ negℤ-negℤ (quantised C size))
+either-odd C false size = quantised-odd C size
+
+zero-odd : (C : ℕ) → quantised C (fin false 0 (pos 0)) ≡ negℤ (quantised C (fin false 0 (pos 0)))
+unfolding quantised
+zero-odd C = rw (rounded-zero C)
+
+sign-odd : (C : ℕ) (x size : Float) → quantised C (withSign (neg x) size) ≡ negℤ (quantised C (withSign x size))
+unfolding withSign neg quantised
+sign-odd C nan size = refl
+sign-odd C (inf s) size = either-odd C s size
+sign-odd C (fin s zero e) size = zero-odd C
+sign-odd C (fin s (suc m) e) size = either-odd C s size
+
+pub llr-odd : (C : ℕ) (channel : Channel) (x : Float) → llrOf C channel (neg x) ≡ negℤ (llrOf C channel x)
+llr-odd C (Gaussian factor) x = ap (quantised C) (mul-neg binary32 x factor) ∙ quantised-odd C (mul binary32 x factor)
+llr-odd C (Flipping weight) x = sign-odd C x weight
+llr-odd C Erasing x = sign-odd C x (fin false C (pos 0))
+
+-- ---- samples negated at some places
+
+llr-flipped : (C : ℕ) (channel : Channel) (b : Bool) (x : Float) → llrOf C channel (negatedIf b x) ≡ flipped b (llrOf C channel x)
+llr-flipped C channel true x = llr-odd C channel x
+llr-flipped C channel false x = refl
+
+finite-negated : (b : Bool) (x : Float) → isFinite (negatedIf b x) ≡ isFinite x
+unfolding isFinite neg
+finite-negated false x = refl
+finite-negated true nan = refl
+finite-negated true (inf s) = refl
+finite-negated true (fin s m e) = refl
+
+nan-negated : (b : Bool) → nan ≡ negatedIf b nan
+unfolding neg
+nan-negated true = refl
+nan-negated false = refl
+
+-- (behind the list's end both sides read a NaN)
+sample-negated : (n : ℕ) (bit : ℕ → Bool) (samples : List Float) (i : ℕ) → i < n
+    → getD (negated n bit samples) i nan ≡ negatedIf (bit i) (getD samples i nan)
+sample-negated zero bit samples i h = absurd (not-suc-le-zero h)
+sample-negated (suc n) bit [] i h = nan-negated (bit i)
+sample-negated (suc n) bit (x ∷ samples) zero h = refl
+sample-negated (suc n) bit (x ∷ samples) (suc i) h = sample-negated n (λ j. bit (suc j)) samples i (le-of-suc-le-suc h)
+
+all-negated : (n k : ℕ) (bit : ℕ → Bool) (samples : List Float) → k ≤ n
+    → allFinite k (negated n bit samples) ≡ allFinite k samples
+all-negated n zero bit samples h = refl
+all-negated n (suc k) bit samples h =
+    ap₂ (λ (a b : Bool). a && b) (all-negated n k bit samples (omega arith))
+    (ap isFinite (sample-negated n bit samples k h) ∙ finite-negated (bit k) (getD samples k nan))
+
+-- the number of the answer stays
+pub front-number-negated : (m C : ℕ) (channel : Channel) (bit : ℕ → Bool) (samples : List Float) (room : ℕ)
+    → frontNumber m C channel (negated (2 ^ m) bit samples) room ≡ frontNumber m C channel samples room
+front-number-negated m C channel bit samples room =
+    simp (length-overwrite, all-negated (2 ^ m) (2 ^ m) bit samples (le-refl (2 ^ m)))
+
+-- each LLR is flipped where its sample is negated
+pub llr-negated : (n C : ℕ) (channel : Channel) (bit : ℕ → Bool) (samples : List Float) (i : ℕ) → i < n
+    → llrOf C channel (getD (negated n bit samples) i nan) ≡ flipped (bit i) (llrOf C channel (getD samples i nan))
+llr-negated n C channel bit samples i h =
+    ap (llrOf C channel) (sample-negated n bit samples i h) ∙ llr-flipped C channel (bit i) (getD samples i nan)
+
+pub front-llrs-negated : (m C : ℕ) (channel : Channel) (bit : ℕ → Bool) (samples : List Float) (old : List ℤ)
+    → frontLlrs m C channel (negated (2 ^ m) bit samples) old
+    ≡ unlessRefused (frontNumber m C channel samples (length old))
+    (overwrite (2 ^ m) (λ i. flipped (bit i) (llrOf C channel (getD samples i nan))) old) old
+front-llrs-negated m C channel bit samples old =
+    ap₂ (λ (number : ℕ) (new : List ℤ). unlessRefused number new old)
+    (front-number-negated m C channel bit samples (length old))
+    (overwrite-same (2 ^ m) (λ i. llrOf C channel (getD (negated (2 ^ m) bit samples) i nan))
+    (λ i. flipped (bit i) (llrOf C channel (getD samples i nan))) old (λ i h k. llr-negated (2 ^ m) C channel bit samples i h))
