@@ -69,6 +69,14 @@ module _ {A : Type 0} where
   overwrite-own (suc n) [] z = refl
   overwrite-own (suc n) (x ∷ l) z = ap (λ (r : List A). x ∷ r) (overwrite-own n l z)
 
+  -- what holds of an element, and of every value written, holds of what stands there afterwards
+  pub overwrite-every : (P : A → Type 0) (n : ℕ) (g : ℕ → A) (l : List A) (j : ℕ) (z : A) → ((i : ℕ) → i < n → P (g i)) → P (getD l j z)
+      → P (getD (overwrite n g l) j z)
+  overwrite-every P zero g l j z new old = old
+  overwrite-every P (suc n) g [] j z new old = old
+  overwrite-every P (suc n) g (x ∷ l) zero z new old = new 0 (omega arith)
+  overwrite-every P (suc n) g (x ∷ l) (suc j) z new old = overwrite-every P n (λ i. g (suc i)) l j z (λ i h. new (suc i) (omega arith)) old
+
   -- ---- from element a on
 
   pub length-overwriteFrom : (a n : ℕ) (g : ℕ → A) (l : List A) → length (overwriteFrom a n g l) ≡ length l
@@ -80,6 +88,18 @@ module _ {A : Type 0} where
   overwriteFrom-none zero g l = refl
   overwriteFrom-none (suc a) g [] = refl
   overwriteFrom-none (suc a) g (x ∷ l) = ap (λ (r : List A). x ∷ r) (overwriteFrom-none a g l)
+
+  pub overwriteFrom-at : (a n : ℕ) (g : ℕ → A) (l : List A) (i : ℕ) (z : A) → i < n → a + i < length l
+      → getD (overwriteFrom a n g l) (a + i) z ≡ g i
+  overwriteFrom-at zero n g l i z h k = rw zero-add (overwrite-at n g l i z h (omega arith))
+  overwriteFrom-at (suc a) n g [] i z h k = absurd (not-suc-le-zero k)
+  overwriteFrom-at (suc a) n g (x ∷ l) i z h k = rw suc-add (overwriteFrom-at a n g l i z h (omega arith))
+
+  pub overwriteFrom-before : (a n : ℕ) (g : ℕ → A) (l : List A) (i : ℕ) (z : A) → i < a → getD (overwriteFrom a n g l) i z ≡ getD l i z
+  overwriteFrom-before zero n g l i z h = absurd (not-suc-le-zero h)
+  overwriteFrom-before (suc a) n g [] i z h = refl
+  overwriteFrom-before (suc a) n g (x ∷ l) zero z h = refl
+  overwriteFrom-before (suc a) n g (x ∷ l) (suc i) z h = overwriteFrom-before a n g l i z (le-of-suc-le-suc h)
 
   pub overwriteFrom-behind : (a n : ℕ) (g : ℕ → A) (l : List A) (i : ℕ) (z : A) → a + n ≤ i
       → getD (overwriteFrom a n g l) i z ≡ getD l i z
@@ -93,6 +113,13 @@ module _ {A : Type 0} where
   overwriteFrom-store zero n g l h = rw zero-add (overwrite-store n g l (omega arith))
   overwriteFrom-store (suc a) n g [] h = absurd (not-suc-le-zero h)
   overwriteFrom-store (suc a) n g (x ∷ l) h = rw suc-add (ap (λ (r : List A). x ∷ r) (overwriteFrom-store a n g l (omega arith)))
+
+  pub overwriteFrom-every : (P : A → Type 0) (a n : ℕ) (g : ℕ → A) (l : List A) (j : ℕ) (z : A) → ((i : ℕ) → i < n → P (g i)) → P (getD l j z)
+      → P (getD (overwriteFrom a n g l) j z)
+  overwriteFrom-every P zero n g l j z new old = overwrite-every P n g l j z new old
+  overwriteFrom-every P (suc a) n g [] j z new old = old
+  overwriteFrom-every P (suc a) n g (x ∷ l) zero z new old = old
+  overwriteFrom-every P (suc a) n g (x ∷ l) (suc j) z new old = overwriteFrom-every P a n g l j z new old
 
   -- k elements more, behind the first n
   pub overwrite-more : (n k : ℕ) (f g : ℕ → A) (l : List A) → ((i : ℕ) → i < k → f i ≡ g (n + i))

@@ -10,9 +10,14 @@ use Rattle.calls.specs.declared.Refusal.{Refusal}
 use Rattle.calls.specs.declared.Refusal.the-variants.{
   BlockLength,
   Ceiling,
+  Scale,
+  Limit,
+  Criterion,
+  Operand,
   ShortSlice,
   MaskValue,
   NoInformation,
+  LlrAboveCeiling,
   ChannelFactor,
   SampleNotFinite,
   MessageBit,
@@ -24,9 +29,14 @@ use Rattle.calls.specs.Numbers.{refusalNumber, check, andThen, between}
 refusal-number : (r : Refusal) {A : Type 0} → ((n : ℕ) → refusalNumber r ≡ suc n → A) → A
 refusal-number BlockLength f = f 0 refl
 refusal-number Ceiling f = f 1 refl
+refusal-number Scale f = f 2 refl
+refusal-number Limit f = f 3 refl
+refusal-number Criterion f = f 4 refl
+refusal-number Operand f = f 5 refl
 refusal-number ShortSlice f = f 6 refl
 refusal-number MaskValue f = f 7 refl
 refusal-number NoInformation f = f 8 refl
+refusal-number LlrAboveCeiling f = f 9 refl
 refusal-number ChannelFactor f = f 10 refl
 refusal-number SampleNotFinite f = f 11 refl
 refusal-number MessageBit f = f 12 refl

@@ -6,9 +6,14 @@ use Rattle.calls.specs.declared.Refusal.{Refusal}
 use Rattle.calls.specs.declared.Refusal.the-variants.{
   BlockLength,
   Ceiling,
+  Scale,
+  Limit,
+  Criterion,
+  Operand,
   ShortSlice,
   MaskValue,
   NoInformation,
+  LlrAboveCeiling,
   ChannelFactor,
   SampleNotFinite,
   MessageBit,
@@ -19,9 +24,14 @@ use Rattle.calls.specs.declared.Answer.the-variants.{Done, Refused}
 abbrev pub refusalNumber : Refusal → ℕ
 refusalNumber BlockLength = 1
 refusalNumber Ceiling = 2
+refusalNumber Scale = 3
+refusalNumber Limit = 4
+refusalNumber Criterion = 5
+refusalNumber Operand = 6
 refusalNumber ShortSlice = 7
 refusalNumber MaskValue = 8
 refusalNumber NoInformation = 9
+refusalNumber LlrAboveCeiling = 10
 refusalNumber ChannelFactor = 11
 refusalNumber SampleNotFinite = 12
 refusalNumber MessageBit = 13

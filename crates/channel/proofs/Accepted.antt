@@ -1,29 +1,17 @@
--- What a call that no test refuses has passed, and that one refused leaves the lent memory as it was.
-use Prim.Native.Nat.{ℕ, suc, _*_, _%_, _^_, _≤_}
-use mathlib.Core.Path.{_≡_, refl, _∙_}
-use mathlib.Core.Bool.{Bool, true, false, _&&_}
+-- What a call that no test refuses has passed.
+use Prim.Native.Nat.{ℕ, _*_, _%_, _^_, _≤_}
+use mathlib.Core.Path.{_≡_, sym, subst, _∙_}
+use mathlib.Core.Bool.{_&&_}
 use mathlib.Core.List.{List}
 use native.Mathlib.Nat.{one-mul}
 use native.Mathlib.Omega.{arith}
-use lib.Dec.{T, leb, leb→le, lit<}
-use lib.IntN.{ℤ}
+use lib.Dec.{T, leb, lit<}
 use lib.ListN.{length}
 use lib.Pow.{shl-exact}
 use lib.Ieee.{Float}
-use lib.Ieee.Fits.{and-l, and-r}
-use Rattle.calls.specs.Numbers.{refusalNumber, check, between}
-use Rattle.calls.specs.Memory.{unlessRefused}
-use Rattle.calls.specs.declared.Refusal.{Refusal}
-use Rattle.calls.specs.declared.Refusal.the-variants.{
-  BlockLength,
-  Ceiling,
-  ShortSlice,
-  MaskValue,
-  NoInformation,
-  ChannelFactor,
-  SampleNotFinite,
-  MessageBit,
-}
+use borrow.Author.Tests.{leb-true}
+use Rattle.calls.specs.Numbers.{between}
+use Rattle.calls.specs.NumberLaws.{check-passed, and-passed, between-passed}
 use Rattle.channel.specs.Front.{isUsable, allFinite, frontNumber}
 use Rattle.channel.specs.declared.Channel.{Channel}
 
@@ -38,38 +26,19 @@ pub record Accepted (m C : ℕ) (channel : Channel) (samples : List Float) (room
   pub usable : T (isUsable channel)
   pub finite : T (allFinite (2 ^ m) samples)
 
-passed : (b : Bool) (k next : ℕ) → check b (suc k) next ≡ 0 → T b × (next ≡ 0)
-passed true k next e = (tt, e)
-passed false k next e = absurd (no e)
-  where
-    no : suc k ≡ 0 → ⊥
-    no h = omega arith
-
-both : (a b c d : ℕ) → T (leb a b && leb c d) → (a ≤ b) × (c ≤ d)
-both a b c d t = (leb→le a b (and-l (leb a b) (leb c d) t), leb→le c d (and-r (leb a b) (leb c d) t))
-
 pub accepted : (m C : ℕ) (channel : Channel) (samples : List Float) (room : ℕ) → frontNumber m C channel samples room ≡ 0
     → Accepted m C channel samples room
 accepted m C channel samples room e =
-    let p1 = passed (between 1 10 m) 0 _ e in
-    let p2 = passed (between 1 2047 C) 1 _ (p1 .1) in
-    let p7 = passed (leb (2 ^ m) (length samples) && leb (2 ^ m) room) 6 _ (p2 .1) in
-    let p11 = passed (isUsable channel) 10 _ (p7 .1) in
-    let p12 = passed (allFinite (2 ^ m) samples) 11 0 (p11 .1) in
+    let one = check-passed (between 1 10 m) 0 _ e in
+    let two = check-passed (between 1 2047 C) 1 _ (one .1) in
+    let seven = check-passed (leb (2 ^ m) (length samples) && leb (2 ^ m) room) 6 _ (two .1) in
+    let eleven = check-passed (isUsable channel) 10 _ (seven .1) in
+    let twelve = check-passed (allFinite (2 ^ m) samples) 11 0 (eleven .1) in
+    let long = and-passed (leb (2 ^ m) (length samples)) (leb (2 ^ m) room) (seven .0) in
     record {
-      block = both 1 m m 10 (p1 .0);
-      ceiling = both 1 C C 2047 (p2 .0);
-      slices = both (2 ^ m) (length samples) (2 ^ m) room (p7 .0);
-      usable = p11 .0;
-      finite = p12 .0;
+      block = between-passed 1 10 m (one .0);
+      ceiling = between-passed 1 2047 C (two .0);
+      slices = (leb-true (2 ^ m) (length samples) (long .0), leb-true (2 ^ m) room (long .1));
+      usable = subst T (sym (eleven .0)) tt;
+      finite = subst T (sym (twelve .0)) tt;
     }
-
-pub kept : (refusal : Refusal) (new old : List ℤ) → old ≡ unlessRefused (refusalNumber refusal) new old
-kept BlockLength new old = refl
-kept Ceiling new old = refl
-kept ShortSlice new old = refl
-kept MaskValue new old = refl
-kept NoInformation new old = refl
-kept ChannelFactor new old = refl
-kept SampleNotFinite new old = refl
-kept MessageBit new old = refl

@@ -2,7 +2,7 @@
 use Prim.Native.Nat.{ℕ, zero, suc, _+_, _-_, _*_, _/_, _%_, _^_, _≤_, _<_}
 use mathlib.Core.Path.{_≡_, refl, sym, ap, ap₂, _∙_, subst}
 use mathlib.Core.Bool.{Bool}
-use native.Mathlib.Nat.{zero-mul, one-mul, suc-mul, add-mul, mul-le-mul-right, div-lt-iff-lt-mul, mod-lt, pow-suc, mul-comm}
+use native.Mathlib.Nat.{zero-mul, one-mul, suc-mul, add-mul, mul-le-mul-right, div-lt-iff-lt-mul, le-div-iff-mul-le, mod-lt, pow-suc, mul-comm}
 use native.Mathlib.Omega.{arith}
 use lib.Bits.{bitAnd, and-high}
 use lib.Pow.{pow-pos, pow-add, high, split, shl-shr}
@@ -18,7 +18,7 @@ digit-cases t i {A} clear set = go (digit t i) refl
 
 -- the mask test of the code: `p & d`, where d is 2 ^ t, is the digit times its weight
 module _ (p t d : ℕ) (e : d ≡ 2 ^ t) where
-  masked : bitAnd p d ≡ digit t p * 2 ^ t
+  pub masked : bitAnd p d ≡ digit t p * 2 ^ t
   masked =
       let w : 2 ^ (1 + t) - 2 ^ t ≡ d = rw (pow-add, e) (omega arith) in
       ap (bitAnd p) (sym w) ∙ and-high p 1 t
@@ -30,6 +30,10 @@ module _ (p t d : ℕ) (e : d ≡ 2 ^ t) where
 
   pub mask-set : (bitAnd p d ≡ 0 → ⊥) → digit t p ≡ 1
   mask-set h = digit-cases t p (λ z. absurd (h (masked ∙ ap (λ (x : ℕ). x * 2 ^ t) z ∙ zero-mul (2 ^ t)))) (λ o. o)
+
+-- a lower position stands at least its digit's weight from the start
+pub weight-le : (t p : ℕ) → digit t p ≡ 1 → 2 ^ t ≤ p
+weight-le t p o = subst (λ (n : ℕ). n ≤ p) (one-mul (2 ^ t)) (le-div-iff-mul-le (pow-pos t) .0 (omega arith))
 
 -- a whole number of distances
 pub record Multiple (d p : ℕ) : Type 0 where

@@ -18,8 +18,8 @@ pub struct Code {
     pub m: u32,
 }
 
-// N from m, and a distance from the digit that it stands for.
-fn power_of_two(k: u32) -> usize
+// N from m, and a distance from the digit that it stands for. Offered to the crates above, which have tested m.
+pub fn power_of_two(k: u32) -> usize
     requires { ⌜ k ≤ 10 ⌝ }
     ensures { λ r. ⌜ r ≡ 2 ^ k ⌝ }
 {
@@ -63,7 +63,7 @@ fn information_count(mask: &[u8], n: usize) -> usize
 }
 
 // The tests that the coder and the read-out share: 1; 7, the mask or the slice of N elements beside it; 8; 9.
-fn code_refusal(code: Code, mask: &[u8], room: usize) -> Answer
+pub fn code_refusal(code: Code, mask: &[u8], room: usize) -> Answer
     ensures { λ r. ⌜ numberOf r ≡ codeNumber code (now (mask .entry)) room ⌝ }
 {
     let m = code.m;
@@ -164,7 +164,8 @@ fn butterflies(block: &mut [u8], m: u32, t: u32)
 }
 
 // The coded bits of the first 2^m elements, in place: m steps, from the distance 2^(m-1) down to 1.
-fn transform(block: &mut [u8], m: u32)
+// It is offered to the crates above, which lend it bits.
+pub fn transform(block: &mut [u8], m: u32)
     requires { ⌜ m ≤ 10 ⌝ }
     requires { ⌜ Bits (2 ^ m) (now block) ⌝ }
     ensures { λ _. ⌜ now (block .exit) ≡ overwrite (2 ^ m) (λ i. byteOf (coded m (bitsOf (now (block .entry))) i)) (now (block .entry)) ⌝ }

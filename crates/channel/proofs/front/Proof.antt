@@ -8,9 +8,10 @@ use lib.ListN.{length, getD}
 use lib.Ieee.{nan}
 use borrow.Author.Needs.{needs}
 use Rattle.calls.specs.Numbers.{refusalNumber, numberOf}
+use Rattle.calls.specs.NumberLaws.{refused-keeps}
 use Rattle.calls.specs.Memory.{overwrite}
 use Rattle.channel.specs.Front.{llrOf, frontNumber}
-use Rattle.channel.proofs.Accepted.{Accepted, accepted, block-width, kept}
+use Rattle.channel.proofs.Accepted.{Accepted, accepted, block-width}
 use Rattle.channel.proofs.front.Statement.{statement}
 use Rattle.channel.proofs.front.Tie as tie
 
@@ -60,7 +61,7 @@ returns c =
 returns-2 : tie.Need-returns-2
 returns-2 c =
     let start = c .before .before .before .before in
-    (c .before .before .refusal .ensures, rw (refused c) (kept (c .enum-told2 .given .0 .0) (new start) (now (start .args .llr))))
+    (c .before .before .refusal .ensures, rw (refused c) (sym (refused-keeps (c .enum-told2 .given .0 .0) (new start) (now (start .args .llr)))))
 
 pub front-spec : {M : Type 1} → statement M
 front-spec =

@@ -1,0 +1,78 @@
+// Small blocks through the coder, the read-out and the channel front, as they are compiled, with every refusal of the three.
+// A line for each call gives what it is handed, the number of its answer, and the slice afterwards.
+mod encoding;
+mod front;
+mod long;
+mod reading;
+mod say;
+
+ghost use mathlib.Core.Path.{_≡_};
+ghost use Prim.Native.Nat.{_^_};
+ghost use lib.ListN.{getD};
+ghost use Rattle.calls.specs.Numbers.{numberOf};
+ghost use Rattle.calls.specs.Memory.{overwrite};
+ghost use Rattle.polar.specs.Code.{encodeBlock};
+ghost use Rattle.blocks.specs.Twice.{AllInformation, twiceNumber};
+use calls::Answer;
+use polar::Code;
+
+// The coder, and the coder again on the block that it wrote. With every position an information position the message comes back.
+fn encode_twice(
+    code: Code,
+    mask: &[u8],
+    message: &[u8],
+    block: &mut [u8],
+    again: &mut [u8],
+) -> Answer
+    ensures number { λ r. ⌜ (AllInformation code (now (mask .entry)) → numberOf r ≡ twiceNumber code (now (mask .entry)) (now (message .entry)) (now (block .entry)) (now (again .entry))) ⌝ }
+    ensures returned { λ r. ⌜ (AllInformation code (now (mask .entry)) → numberOf r ≡ 0 → now (again .exit) ≡ overwrite (2 ^ code .m) (λ i. getD (now (message .entry)) i 0) (now (again .entry))) ⌝ }
+    ensures first { λ r. ⌜ now (block .exit) ≡ encodeBlock code (now (mask .entry)) (now (message .entry)) (now (block .entry)) ⌝ }
+    ensures refused { λ r. ⌜ ((numberOf r ≡ 0 → ⊥) → now (again .exit) ≡ now (again .entry)) ⌝ }
+{
+    match polar::encode(code, mask, message, block) {
+        Answer::Refused(refusal) => Answer::Refused(refusal),
+        Answer::Done => polar::encode(code, mask, block, again),
+    }
+}
+
+// One call of it, with m = 3 and every position an information position.
+fn encoded_twice(message: &[u8], block: &mut [u8], again: &mut [u8]) {
+    say::text(b"encode twice");
+    let mask = [0u8; 8];
+    say::code(3, &mask);
+    say::bytes(b" message", message);
+    say::answer(encode_twice(Code { m: 3 }, &mask, message, block, again));
+    say::bytes(b" block", block);
+    say::bytes(b" again", again);
+    say::text(b"\n");
+}
+
+// The message comes back; then the second slice is one element too short.
+fn twice_blocks() {
+    let mut block = [9u8; 9];
+    let mut again = [9u8; 9];
+    encoded_twice(&[1, 0, 1, 1, 0, 0, 1, 0], &mut block, &mut again);
+    let mut first = [9u8; 8];
+    let mut short = [9u8; 7];
+    encoded_twice(&[1, 0, 1, 1, 0, 0, 1, 0], &mut first, &mut short);
+}
+
+fn main() {
+    encoding::small_blocks();
+    long::mixed_block();
+    long::longest_block();
+    encoding::refused_block_lengths();
+    encoding::refused_slices();
+    encoding::refused_values();
+    twice_blocks();
+    reading::blocks();
+    reading::refused_codes();
+    reading::refused_slices();
+    front::gaussian_blocks();
+    front::gaussian_ends();
+    front::sign_blocks();
+    front::refused_settings();
+    front::refused_slices();
+    front::refused_factors();
+    front::refused_samples();
+}

@@ -1,0 +1,191 @@
+-- Laws of the criteria: each reads the first 2 ^ m places alone; the steady count decides criterion 3; and none changes where the signs of
+-- the soft outputs turn with the bits u and those of the coded soft outputs with the coded bits.
+use Prim.Native.Nat.{ℕ, zero, suc, _-_, _^_, _≤_, _<_, zero-le}
+use mathlib.Core.Path.{_≡_, refl, sym, ap, ap₂, _∙_, fun-ext}
+use mathlib.Core.Bool.{Bool, true, false, not, cond, _&&_, Bool·beq, and-false, true≢false}
+use mathlib.Core.List.{List}
+use native.Mathlib.Nat.{sub-zero, suc-sub-suc}
+use native.Mathlib.Omega.{arith}
+use lib.Dec.{leb, eqb, leb·suc-zero, leb·suc-suc}
+use lib.IntN.{ℤ, pos, negsuc, natAbs}
+use lib.ListN.{getD}
+use borrow.Author.Tests.{le-leb, lt-leb}
+use Rattle.calls.specs.Signs.{flipped}
+use Rattle.calls.specs.SignLaws.{size-flipped}
+use Rattle.polar.specs.Code.{xor, bitOf, byKind, coded}
+use Rattle.polar.specs.TransformLaws.{coded-xor, coded-same}
+use Rattle.criteria.specs.declared.Criterion.{Criterion}
+use Rattle.criteria.specs.declared.Criterion.the-variants.{Never, GMatrix, LeastSize, Steady}
+use Rattle.criteria.specs.Marks.{markOf}
+use Rattle.criteria.specs.Criteria.{every, untied, gMatrix, leastSize, sameMarks, steady, holds}
+use Rattle.criteria.specs.Memory.{steadyCount, steadyNext, keptMarks}
+use Rattle.criteria.specs.Working.{holdsNow}
+use Rattle.criteria.specs.EveryLaws.{every-same, every-at, every-first, first-of, second-of, where-true}
+
+pub mark-le : (z : ℤ) → markOf z ≤ 2
+mark-le (pos zero) = omega arith
+mark-le (pos (suc n)) = omega arith
+mark-le (negsuc n) = omega arith
+
+-- ---- each reads the first n places alone
+
+pub untied-same : (n : ℕ) (mark mark′ : ℕ → ℕ) → ((i : ℕ) → i < n → mark i ≡ mark′ i) → untied n mark ≡ untied n mark′
+untied-same n mark mark′ h = every-same n _ _ (λ i l. ap (λ (x : ℕ). not (eqb x 2)) (h i l))
+
+pub g-matrix-same : (m : ℕ) (mark mark′ codedMark codedMark′ : ℕ → ℕ) → ((i : ℕ) → i < 2 ^ m → mark i ≡ mark′ i)
+    → ((i : ℕ) → i < 2 ^ m → codedMark i ≡ codedMark′ i) → gMatrix m mark codedMark ≡ gMatrix m mark′ codedMark′
+g-matrix-same m mark mark′ codedMark codedMark′ h k =
+    ap₂ (λ (a b : Bool). a && b)
+    (ap₂ (λ (a b : Bool). a && b) (untied-same (2 ^ m) mark mark′ h) (untied-same (2 ^ m) codedMark codedMark′ k))
+    (every-same (2 ^ m) _ _ (λ i l.
+    ap₂ Bool·beq (coded-same m i (λ j. bitOf (mark j)) (λ j. bitOf (mark′ j)) (λ j q. ap bitOf (h j q))) (ap bitOf (k i l))))
+
+pub least-size-same : (n operand : ℕ) (soft soft′ : ℕ → ℤ) → ((i : ℕ) → i < n → soft i ≡ soft′ i)
+    → leastSize n operand soft ≡ leastSize n operand soft′
+least-size-same n operand soft soft′ h = every-same n _ _ (λ i l. ap (λ (z : ℤ). leb operand (natAbs z)) (h i l))
+
+pub same-marks-same : (n : ℕ) (mask : List ℕ) (before before′ now now′ : ℕ → ℕ) → ((i : ℕ) → i < n → before i ≡ before′ i)
+    → ((i : ℕ) → i < n → now i ≡ now′ i) → sameMarks n mask before now ≡ sameMarks n mask before′ now′
+same-marks-same n mask before before′ now now′ h k =
+    every-same n _ _ (λ i l. ap₂ (λ (x y : ℕ). byKind (getD mask i 0) (eqb x y) true) (h i l) (k i l))
+
+pub steady-same : (W t : ℕ) (same same′ : ℕ → Bool) → ((j : ℕ) → same j ≡ same′ j) → steady W same t ≡ steady W same′ t
+steady-same W t same same′ h = ap (λ (s : ℕ → Bool). steady W s t) (fun-ext h)
+
+-- ---- the steady count
+
+pub steady-next : (same : ℕ → Bool) (t : ℕ) → steadyNext t (steadyCount same t) (same (suc t)) ≡ steadyCount same (suc t)
+steady-next same zero = refl
+steady-next same (suc t) = refl
+
+cond-le : (b : Bool) (n t : ℕ) → n ≤ t → cond b n 0 ≤ t
+cond-le true n t h = h
+cond-le false n t h = omega arith
+
+pub steady-count-le : (same : ℕ → Bool) (t : ℕ) → steadyCount same t ≤ t
+steady-count-le same zero = omega arith
+steady-count-le same (suc zero) = omega arith
+steady-count-le same (suc (suc t)) =
+    cond-le (same (suc (suc t))) (suc (steadyCount same (suc t))) (suc (suc t)) (omega (arith, steady-count-le same (suc t)))
+
+-- a last iteration that changed the marks, and one that kept them
+module _ (same : ℕ → Bool) (W t : ℕ) where
+  first : {b : Bool} → same (suc t) ≡ b → every (suc W) (λ k. same (suc t - k)) ≡ b && every W (λ k. same (t - k))
+  first e =
+      every-first W (λ k. same (suc t - k))
+      ∙ ap₂ (λ (a b : Bool). a && b) (ap same (sub-zero (suc t)) ∙ e) (every-same W _ _ (λ k l. ap same (suc-sub-suc t k)))
+
+  changed : same (suc t) ≡ false → steady (suc W) same (suc t) ≡ false
+  changed e = ap (λ (b : Bool). leb (suc (suc W)) (suc t) && b) (first e) ∙ and-false (leb (suc (suc W)) (suc t))
+
+  kept : same (suc t) ≡ true → steady (suc W) same (suc t) ≡ steady W same t
+  kept e = ap₂ (λ (a b : Bool). a && b) (leb·suc-suc (suc W) t) (first e)
+
+pub steady-count : (W : ℕ) (same : ℕ → Bool) (t : ℕ) → 1 ≤ t → leb W (steadyCount same t) ≡ steady W same t
+steady-count W same zero h = absurd (omega arith)
+steady-count zero same (suc t) h = le-leb 0 (steadyCount same (suc t)) zero-le ∙ sym (ap (λ (b : Bool). b && true) (le-leb 1 (suc t) h))
+steady-count (suc W) same (suc zero) h =
+    lt-leb (suc W) 0 (omega arith)
+    ∙ sym (ap (λ (b : Bool). b && every (suc W) (λ k. same (1 - k))) (lt-leb (suc (suc W)) 1 (omega arith)))
+steady-count (suc W) same (suc (suc t)) h = go (steady-count W same (suc t) (omega arith)) (same (suc (suc t))) refl
+  where
+    go : leb W (steadyCount same (suc t)) ≡ steady W same (suc t) → (b : Bool) → same (suc (suc t)) ≡ b
+        → leb (suc W) (cond b (suc (steadyCount same (suc t))) 0) ≡ steady (suc W) same (suc (suc t))
+    go ih true e = leb·suc-suc W (steadyCount same (suc t)) ∙ ih ∙ sym (kept same W (suc t) e)
+    go ih false e = leb·suc-zero W ∙ sym (changed same W (suc t) e)
+
+-- ---- the criterion, from what one iteration leaves
+
+module _ (m : ℕ) (mask : List ℕ) (soft codedSoft : ℕ → ℕ → ℤ) (t : ℕ) (first : 1 ≤ t) (count : ℕ) (value : ℕ → ℤ) (mark codedMark : ℕ → ℕ)
+    (counted : count ≡ steadyCount (keptMarks m mask soft) t) (values : (i : ℕ) → i < 2 ^ m → value i ≡ soft t i)
+    (marks : (i : ℕ) → i < 2 ^ m → mark i ≡ markOf (soft t i)) (codedMarks : (i : ℕ) → i < 2 ^ m → codedMark i ≡ markOf (codedSoft t i)) where
+  pub holds-now : (criterion : Criterion) → holdsNow m criterion count value mark codedMark ≡ holds m criterion mask soft codedSoft t
+  holds-now Never = refl
+  holds-now GMatrix = g-matrix-same m mark _ codedMark _ marks codedMarks
+  holds-now (LeastSize operand) = least-size-same (2 ^ m) operand value (soft t) values
+  holds-now (Steady W) = rw counted (steady-count W (keptMarks m mask soft) t first)
+
+-- ---- signs turned
+
+tie-flipped : (b : Bool) (z : ℤ) → not (eqb (markOf (flipped b z)) 2) ≡ not (eqb (markOf z) 2)
+tie-flipped false z = refl
+tie-flipped true (pos zero) = refl
+tie-flipped true (pos (suc n)) = refl
+tie-flipped true (negsuc n) = refl
+
+bit-flipped : (b : Bool) (z : ℤ) → not (eqb (markOf z) 2) ≡ true → bitOf (markOf (flipped b z)) ≡ xor b (bitOf (markOf z))
+bit-flipped false z e = refl
+bit-flipped true (pos zero) e = absurd (true≢false (sym e))
+bit-flipped true (pos (suc n)) e = refl
+bit-flipped true (negsuc n) e = refl
+
+pair-flipped : (b : Bool) (y z : ℤ) → eqb (markOf (flipped b y)) (markOf (flipped b z)) ≡ eqb (markOf y) (markOf z)
+pair-flipped false y z = refl
+pair-flipped true (pos zero) (pos zero) = refl
+pair-flipped true (pos zero) (pos (suc n)) = refl
+pair-flipped true (pos zero) (negsuc n) = refl
+pair-flipped true (pos (suc k)) (pos zero) = refl
+pair-flipped true (pos (suc k)) (pos (suc n)) = refl
+pair-flipped true (pos (suc k)) (negsuc n) = refl
+pair-flipped true (negsuc k) (pos zero) = refl
+pair-flipped true (negsuc k) (pos (suc n)) = refl
+pair-flipped true (negsuc k) (negsuc n) = refl
+
+beq-xor : (a b c : Bool) → Bool·beq (xor a b) (xor a c) ≡ Bool·beq b c
+beq-xor false b c = refl
+beq-xor true false false = refl
+beq-xor true false true = refl
+beq-xor true true false = refl
+beq-xor true true true = refl
+
+-- one column of soft outputs, with the signs turned by the bits b
+module _ (n : ℕ) (b : ℕ → Bool) (soft soft′ : ℕ → ℤ) (flips : (i : ℕ) → i < n → soft′ i ≡ flipped (b i) (soft i)) where
+  pub untied-flipped : untied n (λ i. markOf (soft′ i)) ≡ untied n (λ i. markOf (soft i))
+  untied-flipped = every-same n _ _ (λ i l. rw (flips i l) (tie-flipped (b i) (soft i)))
+
+  pub least-size-flipped : (operand : ℕ) → leastSize n operand soft′ ≡ leastSize n operand soft
+  least-size-flipped operand =
+      every-same n _ _ (λ i l. ap (leb operand) (ap natAbs (flips i l) ∙ size-flipped (b i) (soft i)))
+
+  turned : untied n (λ i. markOf (soft i)) ≡ true → (i : ℕ) → i < n → bitOf (markOf (soft′ i)) ≡ xor (b i) (bitOf (markOf (soft i)))
+  turned e i l = rw (flips i l) (bit-flipped (b i) (soft i) (every-at n i (λ i. not (eqb (markOf (soft i)) 2)) e l))
+
+  pub same-marks-flipped : (mask : List ℕ) (before before′ : ℕ → ℤ) → ((i : ℕ) → i < n → before′ i ≡ flipped (b i) (before i))
+      → sameMarks n mask (λ i. markOf (before′ i)) (λ i. markOf (soft′ i)) ≡ sameMarks n mask (λ i. markOf (before i)) (λ i. markOf (soft i))
+  same-marks-flipped mask before before′ h =
+      every-same n _ _ (λ i l.
+      ap (λ (x : Bool). byKind (getD mask i 0) x true) (rw (h i l, flips i l) (pair-flipped (b i) (before i) (soft i))))
+
+-- where a mark or a coded mark is tied the criterion fails before and after; elsewhere both sides of the comparison turn by the coded bit
+module _ (m : ℕ) (u : ℕ → Bool) (soft soft′ codedSoft codedSoft′ : ℕ → ℤ)
+    (flips : (i : ℕ) → i < 2 ^ m → soft′ i ≡ flipped (u i) (soft i))
+    (codedFlips : (i : ℕ) → i < 2 ^ m → codedSoft′ i ≡ flipped (coded m u i) (codedSoft i)) where
+  abbrev bits : ℕ → Bool
+  bits j = bitOf (markOf (soft j))
+
+  compared : untied (2 ^ m) (λ i. markOf (soft i)) ≡ true → untied (2 ^ m) (λ i. markOf (codedSoft i)) ≡ true → (i : ℕ) → i < 2 ^ m
+      → Bool·beq (coded m (λ j. bitOf (markOf (soft′ j))) i) (bitOf (markOf (codedSoft′ i))) ≡ Bool·beq (coded m bits i) (bitOf (markOf (codedSoft i)))
+  compared e f i l =
+      ap₂ Bool·beq
+      (coded-same m i _ (λ j. xor (u j) (bits j)) (turned (2 ^ m) u soft soft′ flips e) ∙ coded-xor m i u bits)
+      (turned (2 ^ m) (coded m u) codedSoft codedSoft′ codedFlips f i l)
+      ∙ beq-xor (coded m u i) (coded m bits i) (bitOf (markOf (codedSoft i)))
+
+  pub g-matrix-flipped : gMatrix m (λ i. markOf (soft′ i)) (λ i. markOf (codedSoft′ i)) ≡ gMatrix m (λ i. markOf (soft i)) (λ i. markOf (codedSoft i))
+  g-matrix-flipped =
+      let marks = untied (2 ^ m) (λ i. markOf (soft i)) in
+      let codedMarks = untied (2 ^ m) (λ i. markOf (codedSoft i)) in
+      rw (untied-flipped (2 ^ m) u soft soft′ flips, untied-flipped (2 ^ m) (coded m u) codedSoft codedSoft′ codedFlips)
+      (where-true (marks && codedMarks) _ _
+      (λ e. every-same (2 ^ m) _ _ (compared (first-of marks codedMarks e) (second-of marks codedMarks e))))
+
+module _ (m : ℕ) (u : ℕ → Bool) (mask : List ℕ) (soft soft′ codedSoft codedSoft′ : ℕ → ℕ → ℤ)
+    (flips : (t i : ℕ) → i < 2 ^ m → soft′ t i ≡ flipped (u i) (soft t i))
+    (codedFlips : (t i : ℕ) → i < 2 ^ m → codedSoft′ t i ≡ flipped (coded m u i) (codedSoft t i)) where
+  pub holds-flipped : (criterion : Criterion) (t : ℕ) → holds m criterion mask soft′ codedSoft′ t ≡ holds m criterion mask soft codedSoft t
+  holds-flipped Never t = refl
+  holds-flipped GMatrix t = g-matrix-flipped m u (soft t) (soft′ t) (codedSoft t) (codedSoft′ t) (flips t) (codedFlips t)
+  holds-flipped (LeastSize operand) t = least-size-flipped (2 ^ m) u (soft t) (soft′ t) (flips t) operand
+  holds-flipped (Steady W) t =
+      steady-same W t (keptMarks m mask soft′) (keptMarks m mask soft) (λ j.
+      same-marks-flipped (2 ^ m) u (soft j) (soft′ j) (flips j) mask (soft (j - 1)) (soft′ (j - 1)) (flips (j - 1)))

@@ -1,0 +1,6 @@
+pub mod Marks
+pub mod Criteria
+pub mod Memory
+pub mod Working
+pub mod EveryLaws
+pub mod CriteriaLaws

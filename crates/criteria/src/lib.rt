@@ -1,0 +1,218 @@
+// The criteria: marks of soft values, and whether the criterion holds after an iteration.
+// It sees `calls` and `polar`, and reads marks, soft values and the mask, never a message. It promises document 01's marks and criteria.
+// Its functions are offered to the crates above, which have tested the settings and the lengths.
+ghost use mathlib.Core.Path.{_≡_};
+ghost use mathlib.Core.Bool.{true, _&&_};
+ghost use Prim.Native.Nat.{_+_, _<_, _≤_, _^_, min};
+ghost use lib.Dec.{eqb};
+ghost use lib.IntN.{pos, natAbs};
+ghost use lib.ListN.{length, getD};
+ghost use Rattle.polar.specs.Code.{byKind};
+ghost use Rattle.calls.specs.Memory.{overwrite};
+ghost use Rattle.criteria.specs.Marks.{markOf};
+ghost use Rattle.criteria.specs.Criteria.{every, untied, gMatrix, leastSize, sameMarks};
+ghost use Rattle.criteria.specs.Memory.{steadyNext};
+ghost use Rattle.criteria.specs.Working.{SoftValues, MarkBytes, holdsNow};
+
+// The criterion that ends the decoding. A later criterion joins them here.
+pub enum Criterion {
+    Never,
+    GMatrix,
+    LeastSize(u16),
+    Steady(u32),
+}
+
+// The mark of a soft value.
+pub fn mark(value: i16) -> u8
+    ensures { λ r. ⌜ r ≡ markOf value ⌝ }
+{
+    if value < 0 {
+        1
+    } else if 0 < value {
+        0
+    } else {
+        2
+    }
+}
+
+// The size of a soft value, which is not -32768.
+fn size(value: i16) -> u16
+    requires { ⌜ natAbs value ≤ 2047 ⌝ }
+    ensures { λ r. ⌜ r ≡ natAbs value ⌝ }
+{
+    if value < 0 {
+        (-value) as u16
+    } else {
+        value as u16
+    }
+}
+
+fn smaller(a: u16, b: u16) -> u16
+    ensures { λ r. ⌜ r ≡ min a b ⌝ }
+{
+    if a < b { a } else { b }
+}
+
+// Both, without a branch.
+fn both(a: bool, b: bool) -> bool
+    ensures { λ r. ⌜ r ≡ a && b ⌝ }
+{
+    a & b
+}
+
+// Whether no tie is among the first n marks.
+pub fn untied(marks: &[u8], n: usize) -> bool
+    requires { ⌜ n ≤ length (now marks) ⌝ }
+    ensures { λ r. ⌜ r ≡ untied n (λ i. getD (now (marks .entry)) i 0) ⌝ }
+{
+    let mut clear = true;
+    let mut i = 0;
+    while i < n {
+        clear = both(clear, marks[i] != 2);
+        i += 1;
+    }
+    clear
+}
+
+// Criterion 2 of the first n soft values. It keeps the least size, which needs no branch.
+pub fn least_size(operand: u16, soft: &[i16], n: usize) -> bool
+    requires { ⌜ SoftValues n (now soft) ⌝ }
+    ensures { λ r. ⌜ r ≡ leastSize n operand (λ i. getD (now (soft .entry)) i (pos 0)) ⌝ }
+{
+    let mut least = 65535;
+    let mut i = 0;
+    while i < n {
+        least = smaller(least, size(soft[i]));
+        i += 1;
+    }
+    operand <= least
+}
+
+// Whether a position allows criterion 3: it is frozen, or its mark is that of the iteration before.
+fn keeps_mark(kind: u8, before: u8, now: u8) -> bool
+    ensures { λ r. ⌜ r ≡ byKind kind (eqb before now) true ⌝ }
+{
+    kind != 0 || before == now
+}
+
+// Whether the marks of the first n soft values are those of the iteration before, at the information positions.
+pub fn same_marks(mask: &[u8], before: &[u8], soft: &[i16], n: usize) -> bool
+    requires { ⌜ (n ≤ length (now mask)) × (n ≤ length (now before)) × (n ≤ length (now soft)) ⌝ }
+    ensures { λ r. ⌜ r ≡ sameMarks n (now (mask .entry)) (λ i. getD (now (before .entry)) i 0) (λ i. markOf (getD (now (soft .entry)) i (pos 0))) ⌝ }
+{
+    let mut same = true;
+    let mut i = 0;
+    while i < n {
+        same = both(same, keeps_mark(mask[i], before[i], mark(soft[i])));
+        i += 1;
+    }
+    same
+}
+
+// Copies the first n marks.
+fn copy(marks: &[u8], n: usize, bits: &mut [u8])
+    requires { ⌜ (n ≤ length (now marks)) × (n ≤ length (now bits)) ⌝ }
+    ensures { λ _. ⌜ now (bits .exit) ≡ overwrite n (λ i. getD (now (marks .entry)) i 0) (now (bits .entry)) ⌝ }
+{
+    let mut i = 0;
+    while i < n {
+        bits[i] = marks[i];
+        i += 1;
+    }
+}
+
+// Whether the first n bytes of both are equal.
+fn equal(a: &[u8], b: &[u8], n: usize) -> bool
+    requires { ⌜ (n ≤ length (now a)) × (n ≤ length (now b)) ⌝ }
+    ensures { λ r. ⌜ r ≡ every n (λ i. eqb (getD (now (a .entry)) i 0) (getD (now (b .entry)) i 0)) ⌝ }
+{
+    let mut same = true;
+    let mut i = 0;
+    while i < n {
+        same = both(same, a[i] == b[i]);
+        i += 1;
+    }
+    same
+}
+
+// Criterion 1: no tie, and the marks coded give the coded marks.
+pub fn g_matrix(m: u32, marks: &[u8], coded: &[u8]) -> bool
+    requires { ⌜ m ≤ 10 ⌝ }
+    requires { ⌜ MarkBytes (2 ^ m) (now marks) × MarkBytes (2 ^ m) (now coded) ⌝ }
+    ensures { λ r. ⌜ r ≡ gMatrix m (λ i. getD (now (marks .entry)) i 0) (λ i. getD (now (coded .entry)) i 0) ⌝ }
+{
+    let n = polar::power_of_two(m);
+    if !untied(marks, n) {
+        return false;
+    }
+    if !untied(coded, n) {
+        return false;
+    }
+    let mut bits = [0u8; 1024];
+    copy(marks, n, &mut bits);
+    polar::transform(&mut bits, m);
+    equal(&bits, coded, n)
+}
+
+// The steady count after one iteration more: the first iteration has none before it, and a change of the marks starts the count again.
+fn steady_after(iterations: u32, steady: u32, same: bool) -> u32
+    requires { ⌜ steady < 1000 ⌝ }
+    ensures { λ r. ⌜ r ≡ steadyNext iterations steady same ⌝ }
+{
+    if iterations == 0 {
+        return 0;
+    }
+    if same { steady + 1 } else { 0 }
+}
+
+// What a criterion remembers between iterations: how many there were, and at how many of the last ones the marks at the information
+// positions equalled those of the iteration before. What a later criterion remembers joins them here.
+pub struct Memory {
+    pub iterations: u32,
+    pub steady: u32,
+}
+
+impl Memory {
+    pub fn new() -> Memory
+        ensures { λ r. ⌜ (r .iterations ≡ 0) × (r .steady ≡ 0) ⌝ }
+    {
+        Memory {
+            iterations: 0,
+            steady: 0,
+        }
+    }
+
+    // After one iteration more, where `same` says whether its marks at the information positions equalled those of the one before.
+    pub fn after(self, same: bool) -> Memory
+        requires { ⌜ (self .iterations < 1000) × (self .steady ≤ self .iterations) ⌝ }
+        ensures { λ r. ⌜ (r .iterations ≡ self .iterations + 1) × (r .steady ≡ steadyNext (self .iterations) (self .steady) same) ⌝ }
+    {
+        let iterations = self.iterations;
+        let steady = self.steady;
+        Memory {
+            iterations: iterations + 1,
+            steady: steady_after(iterations, steady, same),
+        }
+    }
+}
+
+// Whether the criterion holds after the iteration whose soft values, marks and coded marks these are.
+pub fn holds_now(
+    m: u32,
+    criterion: Criterion,
+    memory: Memory,
+    soft: &[i16],
+    marks: &[u8],
+    coded: &[u8],
+) -> bool
+    requires { ⌜ m ≤ 10 ⌝ }
+    requires { ⌜ SoftValues (2 ^ m) (now soft) × MarkBytes (2 ^ m) (now marks) × MarkBytes (2 ^ m) (now coded) ⌝ }
+    ensures { λ r. ⌜ r ≡ holdsNow m criterion (memory .steady) (λ i. getD (now (soft .entry)) i (pos 0)) (λ i. getD (now (marks .entry)) i 0) (λ i. getD (now (coded .entry)) i 0) ⌝ }
+{
+    match criterion {
+        Criterion::Never => false,
+        Criterion::GMatrix => g_matrix(m, marks, coded),
+        Criterion::LeastSize(operand) => least_size(operand, soft, polar::power_of_two(m)),
+        Criterion::Steady(iterations) => iterations <= memory.steady,
+    }
+}

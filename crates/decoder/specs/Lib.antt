@@ -1,0 +1,3 @@
+pub mod Decoder
+pub mod EndingLaws
+pub mod Working

@@ -1,0 +1,5 @@
+pub mod Verdict
+pub mod Flips
+pub mod Outcome
+pub mod Runs
+pub mod Fairness

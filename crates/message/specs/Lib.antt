@@ -1,0 +1,4 @@
+pub mod Message
+pub mod Working
+pub mod MessageLaws
+pub mod Cases

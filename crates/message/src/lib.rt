@@ -1,0 +1,84 @@
+// The arithmetic of messages: scaled min-sum and the cut sum on signed 16-bit numbers of size at most the ceiling.
+// It sees `calls` and `polar`, and no criterion. It promises document 01's f and its sum, cut after the single addition. Its functions are
+// offered to the crates above, which have tested ceiling and scale.
+ghost use mathlib.Core.Path.{_≡_};
+ghost use Prim.Native.Nat.{_*_, _/_, _^_, _<_, _≤_, min};
+ghost use lib.IntN.{pos, natAbs};
+ghost use Rattle.calls.specs.Signs.{isNegative, flipped};
+ghost use Rattle.message.specs.Message.{add, f};
+ghost use Rattle.message.specs.MessageLaws.{Tested};
+ghost use Rattle.message.specs.Working.{lesser, greater};
+
+// The settings of the message arithmetic: the ceiling C and the scale k. A later setting of f joins them here.
+pub struct MinSum {
+    pub ceiling: u16,
+    pub scale: u16,
+}
+
+fn lower_of(value: i16, limit: i16) -> i16
+    ensures { λ r. ⌜ r ≡ lesser value limit ⌝ }
+{
+    if value < limit { value } else { limit }
+}
+
+fn higher_of(value: i16, limit: i16) -> i16
+    ensures { λ r. ⌜ r ≡ greater value limit ⌝ }
+{
+    if value < limit { limit } else { value }
+}
+
+// The sum of two messages, cut to the range from -C to C: from above, then from below.
+pub fn add_cut(rule: MinSum, a: i16, b: i16) -> i16
+    requires { ⌜ Tested rule ⌝ }
+    requires { ⌜ (natAbs a ≤ rule .ceiling) × (natAbs b ≤ rule .ceiling) ⌝ }
+    ensures { λ r. ⌜ r ≡ add rule a b ⌝ }
+{
+    let ceiling = rule.ceiling as i16;
+    higher_of(lower_of(a + b, ceiling), -ceiling)
+}
+
+fn is_negative(a: i16) -> bool
+    ensures { λ r. ⌜ r ≡ isNegative a ⌝ }
+{
+    a < 0
+}
+
+fn size_of(a: i16) -> u16
+    requires { ⌜ natAbs a ≤ 2047 ⌝ }
+    ensures { λ r. ⌜ r ≡ natAbs a ⌝ }
+{
+    if a < 0 { -a as u16 } else { a as u16 }
+}
+
+fn smaller_size(x: u16, y: u16) -> u16
+    ensures { λ r. ⌜ r ≡ min x y ⌝ }
+{
+    if x < y { x } else { y }
+}
+
+fn scaled(scale: u16, size: u16) -> u16
+    requires { ⌜ (scale ≤ 16) × (size ≤ 2047) ⌝ }
+    ensures { λ r. ⌜ r ≡ scale * size / 16 ⌝ }
+{
+    scale * size / 16
+}
+
+// A size with its sign given back.
+fn with_sign(negative: bool, size: u16) -> i16
+    requires { ⌜ size < 2 ^ 15 ⌝ }
+    ensures { λ r. ⌜ r ≡ flipped negative (pos size) ⌝ }
+{
+    let value = size as i16;
+    if negative { -value } else { value }
+}
+
+// f of two messages. The size is scaled, and the sign given back afterwards.
+pub fn min_sum(rule: MinSum, a: i16, b: i16) -> i16
+    requires { ⌜ Tested rule ⌝ }
+    requires { ⌜ (natAbs a ≤ rule .ceiling) × (natAbs b ≤ rule .ceiling) ⌝ }
+    ensures { λ r. ⌜ r ≡ f rule a b ⌝ }
+{
+    let scale = rule.scale;
+    let size = scaled(scale, smaller_size(size_of(a), size_of(b)));
+    with_sign(is_negative(a) != is_negative(b), size)
+}

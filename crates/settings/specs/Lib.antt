@@ -1,0 +1,4 @@
+pub mod Settings
+pub mod Working
+pub mod SettingsLaws
+pub mod Cases

@@ -1,0 +1,52 @@
+-- Document 01, the decoder's lines of "Numbers by who causes them": 1 to 10. Definitions only.
+use Prim.Native.Nat.{ℕ, zero, suc, _+_, _*_, _^_}
+use mathlib.Core.Bool.{Bool, true, _&&_}
+use mathlib.Core.List.{List}
+use lib.Dec.{leb, eqb}
+use lib.IntN.{ℤ, pos, natAbs}
+use lib.ListN.{length, getD}
+use Rattle.calls.specs.Numbers.{check, andThen, between}
+use Rattle.polar.specs.Code.{informationCount, areBits}
+use Rattle.settings.specs.declared.Settings.{Settings}
+use Rattle.settings.specs.declared.Room.{Room}
+
+-- 6. The operand of criteria 0 and 1 is 0, of 2 it is 1 to C, of 3 it is 1 to 8
+abbrev pub operandFits : ℕ → ℕ → ℕ → Bool
+operandFits C zero operand = eqb operand 0
+operandFits C (suc zero) operand = eqb operand 0
+operandFits C (suc (suc zero)) operand = between 1 C operand
+operandFits C (suc (suc (suc n))) operand = between 1 8 operand
+
+-- 1 to 6
+abbrev pub settingsNumber : Settings → ℕ
+settingsNumber s =
+    check (between 1 10 (s .m)) 1
+    (check (between 1 2047 (s .ceiling)) 2
+    (check (between 1 16 (s .scale)) 3
+    (check (between 1 200 (s .limit)) 4
+    (check (leb (s .criterion) 3) 5
+    (check (operandFits (s .ceiling) (s .criterion) (s .operand)) 6 0)))))
+
+-- 7. Mask, LLRs and the four outputs need N elements, the workspace 2 (m + 1) N
+abbrev pub slicesFit : ℕ → ℕ → ℕ → Room → Bool
+slicesFit m mask llr room =
+    leb (2 ^ m) mask
+    && leb (2 ^ m) llr
+    && leb (2 ^ m) (room .soft)
+    && leb (2 ^ m) (room .mark)
+    && leb (2 ^ m) (room .«coded_soft»)
+    && leb (2 ^ m) (room .«coded_mark»)
+    && leb (2 * (m + 1) * 2 ^ m) (room .work)
+
+-- 10. No LLR of the first n has a size above C
+abbrev pub withinCeiling : ℕ → ℕ → List ℤ → Bool
+withinCeiling zero C llr = true
+withinCeiling (suc n) C llr = withinCeiling n C llr && leb (natAbs (getD llr n (pos 0))) C
+
+abbrev pub decodeNumber : Settings → List ℕ → List ℤ → Room → ℕ
+decodeNumber s mask llr room =
+    andThen (settingsNumber s)
+    (check (slicesFit (s .m) (length mask) (length llr) room) 7
+    (check (areBits (2 ^ s .m) mask) 8
+    (check (leb 1 (informationCount mask (2 ^ s .m))) 9
+    (check (withinCeiling (2 ^ s .m) (s .ceiling) llr) 10 0))))

@@ -1,0 +1,168 @@
+-- Laws of the decoder's tests: what an accepted call tells of what it was handed, and that the tests read no sign of an LLR.
+use Prim.Native.Nat.{ℕ, zero, suc, _+_, _*_, _^_, _≤_, _<_}
+use mathlib.Core.Path.{_≡_, refl, ap, _∙_}
+use mathlib.Core.Bool.{Bool, true}
+use mathlib.Core.List.{List}
+use mathlib.Core.Logic.{⊎-elim}
+use native.Mathlib.Nat.{eq-or-lt-of-le, le-of-suc-le-suc}
+use native.Mathlib.Omega.{arith}
+use lib.Dec.{leb}
+use lib.IntN.{ℤ, pos, natAbs}
+use lib.ListN.{length, getD}
+use borrow.Author.Tests.{leb-true}
+use Rattle.calls.specs.NumberLaws.{check-passed, both-passed, and-passed, between-passed}
+use Rattle.calls.specs.Signs.{flipped}
+use Rattle.calls.specs.SignLaws.{size-flipped}
+use Rattle.polar.specs.Code.{informationCount, areBits}
+use Rattle.settings.specs.declared.Settings.{Settings}
+use Rattle.settings.specs.declared.Room.{Room}
+use Rattle.settings.specs.Settings.{operandFits, settingsNumber, slicesFit, withinCeiling, decodeNumber}
+
+-- ---- an accepted call
+
+pub within-at : (n C : ℕ) (llr : List ℤ) → withinCeiling n C llr ≡ true → (i : ℕ) → i < n → natAbs (getD llr i (pos 0)) ≤ C
+within-at zero C llr h i q = absurd (omega arith)
+within-at (suc n) C llr h i q =
+    let both = and-passed (withinCeiling n C llr) (leb (natAbs (getD llr n (pos 0))) C) h in
+    ⊎-elim (λ e. rw e (leb-true (natAbs (getD llr n (pos 0))) C (both .1))) (λ q. within-at n C llr (both .0) i q) (eq-or-lt-of-le (le-of-suc-le-suc q))
+
+pub record SettingsAccepted (s : Settings) : Type 0 where
+  pub m-some : 1 ≤ s .m
+  pub m-le : s .m ≤ 10
+  pub ceiling-some : 1 ≤ s .ceiling
+  pub ceiling-le : s .ceiling ≤ 2047
+  pub scale-some : 1 ≤ s .scale
+  pub scale-le : s .scale ≤ 16
+  pub limit-some : 1 ≤ s .limit
+  pub limit-le : s .limit ≤ 200
+  pub criterion-le : s .criterion ≤ 3
+  pub operand : operandFits (s .ceiling) (s .criterion) (s .operand) ≡ true
+
+pub settings-accepted : (s : Settings) → settingsNumber s ≡ 0 → SettingsAccepted s
+settings-accepted s h =
+    let one = check-passed _ 0 _ h in
+    let two = check-passed _ 1 _ (one .1) in
+    let three = check-passed _ 2 _ (two .1) in
+    let four = check-passed _ 3 _ (three .1) in
+    let five = check-passed _ 4 _ (four .1) in
+    let six = check-passed _ 5 _ (five .1) in
+    let m = between-passed 1 10 (s .m) (one .0) in
+    let ceiling = between-passed 1 2047 (s .ceiling) (two .0) in
+    let scale = between-passed 1 16 (s .scale) (three .0) in
+    let limit = between-passed 1 200 (s .limit) (four .0) in
+    record {
+      m-some = m .0;
+      m-le = m .1;
+      ceiling-some = ceiling .0;
+      ceiling-le = ceiling .1;
+      scale-some = scale .0;
+      scale-le = scale .1;
+      limit-some = limit .0;
+      limit-le = limit .1;
+      criterion-le = leb-true (s .criterion) 3 (five .0);
+      operand = six .0;
+    }
+
+pub record SlicesAccepted (m mask llr : ℕ) (room : Room) : Type 0 where
+  pub mask-long : 2 ^ m ≤ mask
+  pub llr-long : 2 ^ m ≤ llr
+  pub room-soft : 2 ^ m ≤ room .soft
+  pub room-mark : 2 ^ m ≤ room .mark
+  pub room-coded-soft : 2 ^ m ≤ room .«coded_soft»
+  pub room-coded-mark : 2 ^ m ≤ room .«coded_mark»
+  pub room-work : 2 * (m + 1) * 2 ^ m ≤ room .work
+
+pub slices-accepted : (m mask llr : ℕ) (room : Room) → slicesFit m mask llr room ≡ true → SlicesAccepted m mask llr room
+slices-accepted m mask llr room h =
+    let six = and-passed _ _ h in
+    let five = and-passed _ _ (six .0) in
+    let four = and-passed _ _ (five .0) in
+    let three = and-passed _ _ (four .0) in
+    let two = and-passed _ _ (three .0) in
+    let one = and-passed _ _ (two .0) in
+    record {
+      mask-long = leb-true _ _ (one .0);
+      llr-long = leb-true _ _ (one .1);
+      room-soft = leb-true _ _ (two .1);
+      room-mark = leb-true _ _ (three .1);
+      room-coded-soft = leb-true _ _ (four .1);
+      room-coded-mark = leb-true _ _ (five .1);
+      room-work = leb-true _ _ (six .1);
+    }
+
+pub record Accepted (s : Settings) (mask : List ℕ) (llr : List ℤ) (room : Room) : Type 0 where
+  pub m-some : 1 ≤ s .m
+  pub m-le : s .m ≤ 10
+  pub ceiling-some : 1 ≤ s .ceiling
+  pub ceiling-le : s .ceiling ≤ 2047
+  pub scale-some : 1 ≤ s .scale
+  pub scale-le : s .scale ≤ 16
+  pub limit-some : 1 ≤ s .limit
+  pub limit-le : s .limit ≤ 200
+  pub criterion-le : s .criterion ≤ 3
+  pub operand : operandFits (s .ceiling) (s .criterion) (s .operand) ≡ true
+  pub mask-long : 2 ^ s .m ≤ length mask
+  pub llr-long : 2 ^ s .m ≤ length llr
+  pub room-soft : 2 ^ s .m ≤ room .soft
+  pub room-mark : 2 ^ s .m ≤ room .mark
+  pub room-coded-soft : 2 ^ s .m ≤ room .«coded_soft»
+  pub room-coded-mark : 2 ^ s .m ≤ room .«coded_mark»
+  pub room-work : 2 * (s .m + 1) * 2 ^ s .m ≤ room .work
+  pub values : areBits (2 ^ s .m) mask ≡ true
+  pub information : 1 ≤ informationCount mask (2 ^ s .m)
+  pub within : (i : ℕ) → i < 2 ^ s .m → natAbs (getD llr i (pos 0)) ≤ s .ceiling
+
+pub accepted : (s : Settings) (mask : List ℕ) (llr : List ℤ) (room : Room) → decodeNumber s mask llr room ≡ 0 → Accepted s mask llr room
+accepted s mask llr room h =
+    let both = both-passed (settingsNumber s) _ h in
+    let seven = check-passed _ 6 _ (both .1) in
+    let eight = check-passed _ 7 _ (seven .1) in
+    let nine = check-passed _ 8 _ (eight .1) in
+    let ten = check-passed _ 9 _ (nine .1) in
+    let set = settings-accepted s (both .0) in
+    let long = slices-accepted (s .m) (length mask) (length llr) room (seven .0) in
+    record {
+      m-some = set .m-some;
+      m-le = set .m-le;
+      ceiling-some = set .ceiling-some;
+      ceiling-le = set .ceiling-le;
+      scale-some = set .scale-some;
+      scale-le = set .scale-le;
+      limit-some = set .limit-some;
+      limit-le = set .limit-le;
+      criterion-le = set .criterion-le;
+      operand = set .operand;
+      mask-long = long .mask-long;
+      llr-long = long .llr-long;
+      room-soft = long .room-soft;
+      room-mark = long .room-mark;
+      room-coded-soft = long .room-coded-soft;
+      room-coded-mark = long .room-coded-mark;
+      room-work = long .room-work;
+      values = eight .0;
+      information = leb-true 1 _ (nine .0);
+      within = within-at (2 ^ s .m) (s .ceiling) llr (ten .0);
+    }
+
+-- the operand of criterion 2, a least size, and of criterion 3, a count of iterations
+module _ {s : Settings} {mask : List ℕ} {llr : List ℤ} {room : Room} (a : Accepted s mask llr room) where
+  pub operand-least : s .criterion ≡ 2 → (1 ≤ s .operand) × (s .operand ≤ s .ceiling)
+  operand-least e = between-passed 1 (s .ceiling) (s .operand) (rw e at (a .operand))
+
+  pub operand-steady : s .criterion ≡ 3 → (1 ≤ s .operand) × (s .operand ≤ 8)
+  operand-steady e = between-passed 1 8 (s .operand) (rw e at (a .operand))
+
+-- ---- signs: a call with the signs of some LLRs turned has the same number
+
+pub within-flipped : (llr llr′ : List ℤ) (n C : ℕ) (b : ℕ → Bool)
+    → ((i : ℕ) → i < n → getD llr′ i (pos 0) ≡ flipped (b i) (getD llr i (pos 0)))
+    → withinCeiling n C llr′ ≡ withinCeiling n C llr
+within-flipped llr llr′ zero C b h = refl
+within-flipped llr llr′ (suc n) C b h =
+    let size : natAbs (getD llr′ n (pos 0)) ≡ natAbs (getD llr n (pos 0)) = ap natAbs (h n (omega arith)) ∙ size-flipped (b n) (getD llr n (pos 0)) in
+    rw (size, within-flipped llr llr′ n C b (λ i q. h i (omega arith)))
+
+pub number-flipped : (s : Settings) (mask : List ℕ) (llr llr′ : List ℤ) (room : Room) (b : ℕ → Bool) → length llr′ ≡ length llr
+    → ((i : ℕ) → i < 2 ^ s .m → getD llr′ i (pos 0) ≡ flipped (b i) (getD llr i (pos 0)))
+    → decodeNumber s mask llr′ room ≡ decodeNumber s mask llr room
+number-flipped s mask llr llr′ room b long h = rw (long, within-flipped llr llr′ (2 ^ s .m) (s .ceiling) b h)

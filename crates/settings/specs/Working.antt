@@ -1,0 +1,15 @@
+-- A part of the decoder's number that a private function gives. Definitions only.
+use Prim.Native.Nat.{ℕ, _^_}
+use mathlib.Core.List.{List}
+use lib.Dec.{leb}
+use lib.IntN.{ℤ}
+use Rattle.calls.specs.Numbers.{check}
+use Rattle.polar.specs.Code.{informationCount, areBits}
+use Rattle.settings.specs.Settings.{withinCeiling}
+
+-- 8 to 10
+abbrev pub blockNumber : ℕ → ℕ → List ℕ → List ℤ → ℕ
+blockNumber m C mask llr =
+    check (areBits (2 ^ m) mask) 8
+    (check (leb 1 (informationCount mask (2 ^ m))) 9
+    (check (withinCeiling (2 ^ m) C llr) 10 0))

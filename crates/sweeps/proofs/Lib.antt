@@ -1,0 +1,4 @@
+pub mod Combined
+pub mod Filled
+pub mod Rows
+pub mod Steps
