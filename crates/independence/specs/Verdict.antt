@@ -1,4 +1,4 @@
--- Document 01, "Message and outcome": when a mark is right, wrong or tied. Definitions only.
+-- Document 01, "Message and outcome": when a mark is right, wrong or tied, and the opposite mark. Definitions only.
 use Prim.Native.Nat.{ℕ, zero, suc}
 use mathlib.Core.Bool.{Bool, true, false}
 
@@ -13,3 +13,10 @@ verdict false (suc zero) = wrong
 verdict true (suc zero) = right
 verdict b (suc (suc zero)) = tied
 verdict b (suc (suc (suc n))) = wrong
+
+-- the opposite mark where a bit is 1; a tie stays
+abbrev pub turned : Bool → ℕ → ℕ
+turned false mark = mark
+turned true zero = 1
+turned true (suc zero) = 0
+turned true (suc (suc n)) = suc (suc n)

@@ -2,4 +2,4 @@ pub mod Verdict
 pub mod Flips
 pub mod Outcome
 pub mod Runs
-pub mod Fairness
+pub mod Independence

@@ -38,9 +38,9 @@ use Rattle.decoder.specs.Decoder.{
   decodeCodedSoft,
   decodeCodedMark,
 }
-use Rattle.fairness.specs.Verdict.{verdict}
-use Rattle.fairness.specs.Flips.{Runs}
-use Rattle.fairness.specs.Outcome.{verdict-flipped, ending-same, final-soft, final-codedSoft}
+use Rattle.independence.specs.Verdict.{turned}
+use Rattle.independence.specs.Flips.{Runs}
+use Rattle.independence.specs.Outcome.{mark-flipped, ending-same, final-soft, final-codedSoft}
 
 -- ---- a lent slice after a call: its length, and an element that an accepted call writes
 
@@ -160,22 +160,21 @@ module _ {s : Settings} {mask : List ℕ} {u sent : ℕ → Bool} {llr llr′ : 
         ∙ ap₂ flipped (sym (c .block i h)) (sym (new-at (decodeNumber s mask llr room) (2 ^ s .m) _ old i (pos 0) ok h (rw long one)))
 
     pub mark-same : (old old′ : List ℕ) → length old ≡ room .mark → length old′ ≡ room′ .mark
-        → verdict (u i) (getD (decodeMark s mask llr′ room′ work′ old′) i 0) ≡ verdict false (getD (decodeMark s mask llr room work old) i 0)
+        → getD (decodeMark s mask llr′ room′ work′ old′) i 0 ≡ turned (u i) (getD (decodeMark s mask llr room work old) i 0)
     mark-same old old′ long long′ =
         let one = accepted s mask llr room ok .room-mark in
         let two = accepted s mask llr′ room′ (passed ok) .room-mark in
-        ap (verdict (u i))
-        (new-at (decodeNumber s mask llr′ room′) (2 ^ s .m) _ old′ i 0 (passed ok) h (rw long′ two) ∙ ap markOf (final-soft s mask u (runs ok) i h))
-        ∙ verdict-flipped (u i) _
-        ∙ ap (verdict false) (sym (new-at (decodeNumber s mask llr room) (2 ^ s .m) _ old i 0 ok h (rw long one)))
+        new-at (decodeNumber s mask llr′ room′) (2 ^ s .m) _ old′ i 0 (passed ok) h (rw long′ two)
+        ∙ ap markOf (final-soft s mask u (runs ok) i h)
+        ∙ mark-flipped (u i) _
+        ∙ ap (turned (u i)) (sym (new-at (decodeNumber s mask llr room) (2 ^ s .m) _ old i 0 ok h (rw long one)))
 
     pub codedMark-same : (old old′ : List ℕ) → length old ≡ room .«coded_mark» → length old′ ≡ room′ .«coded_mark»
-        → verdict (sent i) (getD (decodeCodedMark s mask llr′ room′ work′ old′) i 0) ≡ verdict false (getD (decodeCodedMark s mask llr room work old) i 0)
+        → getD (decodeCodedMark s mask llr′ room′ work′ old′) i 0 ≡ turned (sent i) (getD (decodeCodedMark s mask llr room work old) i 0)
     codedMark-same old old′ long long′ =
         let one = accepted s mask llr room ok .room-coded-mark in
         let two = accepted s mask llr′ room′ (passed ok) .room-coded-mark in
-        ap₂ verdict (c .block i h)
-        (new-at (decodeNumber s mask llr′ room′) (2 ^ s .m) _ old′ i 0 (passed ok) h (rw long′ two)
-        ∙ ap markOf (final-codedSoft s mask u (runs ok) i h))
-        ∙ verdict-flipped (coded (s .m) u i) _
-        ∙ ap (verdict false) (sym (new-at (decodeNumber s mask llr room) (2 ^ s .m) _ old i 0 ok h (rw long one)))
+        new-at (decodeNumber s mask llr′ room′) (2 ^ s .m) _ old′ i 0 (passed ok) h (rw long′ two)
+        ∙ ap markOf (final-codedSoft s mask u (runs ok) i h)
+        ∙ mark-flipped (coded (s .m) u i) _
+        ∙ ap₂ turned (sym (c .block i h)) (sym (new-at (decodeNumber s mask llr room) (2 ^ s .m) _ old i 0 ok h (rw long one)))

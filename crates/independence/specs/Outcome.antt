@@ -1,5 +1,5 @@
--- What the two runs of Flips come to: they end alike, each soft output of the second is that of the first, flipped by its bit, and their marks
--- are right, wrong and tied at the same positions.
+-- What the two runs of Flips come to: they end alike, each soft output of the second is that of the first with its sign turned by its bit, and
+-- so are the marks.
 use Prim.Native.Nat.{ℕ, zero, suc, _^_, _<_}
 use mathlib.Core.Path.{_≡_, refl, ap, fun-ext}
 use mathlib.Core.Bool.{Bool, true, false}
@@ -11,14 +11,23 @@ use Rattle.criteria.specs.Marks.{markOf}
 use Rattle.criteria.specs.CriteriaLaws.{holds-flipped}
 use Rattle.settings.specs.declared.Settings.{Settings}
 use Rattle.decoder.specs.Decoder.{softAt, codedSoftAt, criterionOf, endingOf, ending, final}
-use Rattle.fairness.specs.Verdict.{verdict}
-use Rattle.fairness.specs.Flips.{Runs, soft-flips, codedSoft-flips}
+use Rattle.independence.specs.Verdict.{verdict, turned}
+use Rattle.independence.specs.Flips.{Runs, soft-flips, codedSoft-flips}
 
-pub verdict-flipped : (b : Bool) (z : ℤ) → verdict b (markOf (flipped b z)) ≡ verdict false (markOf z)
-verdict-flipped false z = refl
-verdict-flipped true (pos zero) = refl
-verdict-flipped true (pos (suc n)) = refl
-verdict-flipped true (negsuc n) = refl
+-- the mark of a value with its sign turned is the opposite mark
+pub mark-flipped : (b : Bool) (z : ℤ) → markOf (flipped b z) ≡ turned b (markOf z)
+mark-flipped false z = refl
+mark-flipped true (pos zero) = refl
+mark-flipped true (pos (suc n)) = refl
+mark-flipped true (negsuc n) = refl
+
+-- judged by its bit, the opposite mark fares as the mark does judged by 0
+pub verdict-turned : (b : Bool) (mark : ℕ) → verdict b (turned b mark) ≡ verdict false mark
+verdict-turned false mark = refl
+verdict-turned true zero = refl
+verdict-turned true (suc zero) = refl
+verdict-turned true (suc (suc zero)) = refl
+verdict-turned true (suc (suc (suc n))) = refl
 
 module _ (s : Settings) (mask : List ℕ) (u : ℕ → Bool) {llr llr′ old old′ : List ℤ} (runs : Runs (s .m) mask u llr llr′ old old′) where
   pub ending-same : ending s mask llr′ old′ ≡ ending s mask llr old

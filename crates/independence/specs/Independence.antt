@@ -1,6 +1,6 @@
--- Document 01, "Message and outcome", whole: from samples to marks, nobody who chooses the message can change how well it is decoded.
+-- Document 01, "Message and outcome", whole: from samples to marks, how well a block is decoded does not depend on the message sent.
 use Prim.Native.Nat.{ℕ, _^_, _<_}
-use mathlib.Core.Path.{_≡_, refl}
+use mathlib.Core.Path.{_≡_, refl, ap, _∙_}
 use mathlib.Core.Bool.{Bool, false}
 use mathlib.Core.List.{List}
 use lib.IntN.{ℤ, pos}
@@ -16,8 +16,9 @@ use Rattle.settings.specs.declared.Settings.{Settings}
 use Rattle.settings.specs.declared.Room.{Room}
 use Rattle.settings.specs.Settings.{decodeNumber}
 use Rattle.decoder.specs.Decoder.{Result, roomOf, decodeResult, decodeSoft, decodeMark, decodeCodedSoft, decodeCodedMark}
-use Rattle.fairness.specs.Verdict.{verdict}
-use Rattle.fairness.specs.Runs.{
+use Rattle.independence.specs.Outcome.{verdict-turned}
+use Rattle.independence.specs.Verdict.{verdict, turned}
+use Rattle.independence.specs.Runs.{
   Calls,
   frozen-zero,
   sent-coded,
@@ -105,14 +106,19 @@ module _ (s : Settings) (channel : Channel) (mask message block : List ℕ) (sam
         → softOf s channel mask flippedSamples second i ≡ flipped (u i) (softOf s channel mask samples first i)
     pub codedSoft : frontOf s channel mask samples first ≡ 0 → decoderOf s channel mask samples first ≡ 0 → (i : ℕ) → i < 2 ^ s .m
         → codedSoftOf s channel mask flippedSamples second i ≡ flipped (sent i) (codedSoftOf s channel mask samples first i)
-    -- and a position is right, wrong or tied in the second run, judged by u and the block sent, as it is in the first, judged by zeros
+    -- ties stand at the same places, and every other mark is the opposite one exactly where its bit is 1
     pub marks : frontOf s channel mask samples first ≡ 0 → decoderOf s channel mask samples first ≡ 0 → (i : ℕ) → i < 2 ^ s .m
-        → verdict (u i) (markOf s channel mask flippedSamples second i) ≡ verdict false (markOf s channel mask samples first i)
+        → markOf s channel mask flippedSamples second i ≡ turned (u i) (markOf s channel mask samples first i)
     pub codedMarks : frontOf s channel mask samples first ≡ 0 → decoderOf s channel mask samples first ≡ 0 → (i : ℕ) → i < 2 ^ s .m
+        → codedMarkOf s channel mask flippedSamples second i ≡ turned (sent i) (codedMarkOf s channel mask samples first i)
+    -- so a position is right, wrong or tied in the second run, judged by u and the block sent, as it is in the first, judged by zeros
+    pub verdicts : frontOf s channel mask samples first ≡ 0 → decoderOf s channel mask samples first ≡ 0 → (i : ℕ) → i < 2 ^ s .m
+        → verdict (u i) (markOf s channel mask flippedSamples second i) ≡ verdict false (markOf s channel mask samples first i)
+    pub codedVerdicts : frontOf s channel mask samples first ≡ 0 → decoderOf s channel mask samples first ≡ 0 → (i : ℕ) → i < 2 ^ s .m
         → verdict (sent i) (codedMarkOf s channel mask flippedSamples second i) ≡ verdict false (codedMarkOf s channel mask samples first i)
 
-  pub no-favourite-message : encodeNumber code mask message (length block) ≡ 0 → SameLengths first second → Alike
-  no-favourite-message accepted same =
+  pub message-independence : encodeNumber code mask message (length block) ≡ 0 → SameLengths first second → Alike
+  message-independence accepted same =
       let calls : frontOf s channel mask samples first ≡ 0
       → Calls s mask u sent (llrsOf s channel mask samples first) (llrsOf s channel mask flippedSamples second)
       (lengthsOf s channel mask samples first) (lengthsOf s channel mask flippedSamples second) (first .work) (second .work)
@@ -132,4 +138,8 @@ module _ (s : Settings) (channel : Channel) (mask message block : List ℕ) (sam
         codedSoft = λ front decoder i h. codedSoft-same (calls front) decoder i h (first .codedSoft) (second .codedSoft) refl refl;
         marks = λ front decoder i h. mark-same (calls front) decoder i h (first .mark) (second .mark) refl refl;
         codedMarks = λ front decoder i h. codedMark-same (calls front) decoder i h (first .codedMark) (second .codedMark) refl refl;
+        verdicts = λ front decoder i h.
+            ap (verdict (u i)) (mark-same (calls front) decoder i h (first .mark) (second .mark) refl refl) ∙ verdict-turned (u i) _;
+        codedVerdicts = λ front decoder i h.
+            ap (verdict (sent i)) (codedMark-same (calls front) decoder i h (first .codedMark) (second .codedMark) refl refl) ∙ verdict-turned (sent i) _;
       }
