@@ -20,7 +20,8 @@ use Rattle.criteria.specs.Marks.{markOf}
 use Rattle.criteria.specs.Criteria.{every, untied, gMatrix, leastSize, sameMarks, steady, holds}
 use Rattle.criteria.specs.Memory.{steadyCount, steadyNext, keptMarks}
 use Rattle.criteria.specs.Working.{holdsNow}
-use Rattle.criteria.specs.EveryLaws.{every-same, every-at, every-first, first-of, second-of, where-true}
+use Rattle.calls.specs.NumberLaws.{and-passed}
+use Rattle.criteria.specs.EveryLaws.{every-same, every-at, every-first, where-true}
 
 pub mark-le : (z : ℤ) → markOf z ≤ 2
 mark-le (pos zero) = omega arith
@@ -177,7 +178,7 @@ module _ (m : ℕ) (u : ℕ → Bool) (soft soft′ codedSoft codedSoft′ : ℕ
       let codedMarks = untied (2 ^ m) (λ i. markOf (codedSoft i)) in
       rw (untied-flipped (2 ^ m) u soft soft′ flips, untied-flipped (2 ^ m) (coded m u) codedSoft codedSoft′ codedFlips)
       (where-true (marks && codedMarks) _ _
-      (λ e. every-same (2 ^ m) _ _ (compared (first-of marks codedMarks e) (second-of marks codedMarks e))))
+      (λ e. every-same (2 ^ m) _ _ (compared (and-passed marks codedMarks e .0) (and-passed marks codedMarks e .1))))
 
 module _ (m : ℕ) (u : ℕ → Bool) (mask : List ℕ) (soft soft′ codedSoft codedSoft′ : ℕ → ℕ → ℤ)
     (flips : (t i : ℕ) → i < 2 ^ m → soft′ t i ≡ flipped (u i) (soft t i))

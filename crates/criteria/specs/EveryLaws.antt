@@ -1,20 +1,13 @@
 -- Laws of `every`: it reads the first n places alone, holds at each of them, and its first place can be taken off.
 use Prim.Native.Nat.{ℕ, zero, suc, _+_, _<_}
 use mathlib.Core.Path.{_≡_, refl, sym, ap, ap₂, _∙_}
-use mathlib.Core.Bool.{Bool, true, false, _&&_, and-true, and-assoc, true≢false}
+use mathlib.Core.Bool.{Bool, true, false, _&&_, and-true, and-assoc}
 use mathlib.Core.Logic.{⊎-elim}
 use native.Mathlib.Nat.{eq-or-lt-of-le, le-of-suc-le-suc}
 use native.Mathlib.Numerals.{add-one}
 use native.Mathlib.Omega.{arith}
+use Rattle.calls.specs.NumberLaws.{and-passed}
 use Rattle.criteria.specs.Criteria.{every}
-
-pub first-of : (a b : Bool) → a && b ≡ true → a ≡ true
-first-of true b e = refl
-first-of false b e = e
-
-pub second-of : (a b : Bool) → a && b ≡ true → b ≡ true
-second-of true b e = e
-second-of false b e = absurd (true≢false (sym e))
 
 -- what stands behind a test matters only where the test passes
 pub where-true : (a b c : Bool) → (a ≡ true → b ≡ c) → a && b ≡ a && c
@@ -30,8 +23,8 @@ pub every-at : (n i : ℕ) (p : ℕ → Bool) → every n p ≡ true → i < n �
 every-at zero i p e l = absurd (omega arith)
 every-at (suc n) i p e l =
     ⊎-elim
-    (λ z. rw z (second-of (every n p) (p n) e))
-    (λ k. every-at n i p (first-of (every n p) (p n) e) k)
+    (λ z. rw z (and-passed (every n p) (p n) e .1))
+    (λ k. every-at n i p (and-passed (every n p) (p n) e .0) k)
     (eq-or-lt-of-le (le-of-suc-le-suc l))
 
 pub every-next : (i : ℕ) (p : ℕ → Bool) {flag v : Bool} → flag ≡ every i p → v ≡ p i → flag && v ≡ every (i + 1) p
