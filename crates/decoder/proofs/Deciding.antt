@@ -22,7 +22,8 @@ use Rattle.settings.specs.SettingsLaws.{Accepted}
 use Rattle.decoder.specs.declared.Outcome.{Outcome}
 use Rattle.decoder.specs.declared.Outcome.the-variants.{Refused}
 use Rattle.decoder.specs.Decoder.{ruleOf, after, Ending, ending, byNumber, refused, roomOf, Decoded}
-use Rattle.decoder.specs.Working.{held, endOf, Ran}
+use Rattle.decoder.specs.EndingLaws.{ending-last}
+use Rattle.decoder.specs.Working.{held, endOf, Ran, Limited}
 
 by-refusal : (n : ℕ) (e : Ending) → ((next : ℕ) → andThen n next ≡ n) → refused n ≡ byNumber n e
 by-refusal zero e h = let no : _≡_ {A = ℕ} 1 0 = h 1 in absurd (omega arith)
@@ -33,6 +34,23 @@ operand-le C zero operand top h = omega (arith, eqb-true operand 0 h)
 operand-le C (suc zero) operand top h = omega (arith, eqb-true operand 0 h)
 operand-le C (suc (suc zero)) operand top h = omega (arith, between-passed 1 C operand h)
 operand-le C (suc (suc (suc n))) operand top h = omega (arith, between-passed 1 8 operand h)
+
+-- criterion 0 holds at no iteration
+pub ran-limited : (s : Settings) (mask : List ℕ) {soft : List ℤ} {mark : List ℕ} {codedSoft : List ℤ} {codedMark : List ℕ} {w soft′ : List ℤ} {mark′ : List ℕ}
+    {codedSoft′ : List ℤ} {codedMark′ : List ℕ} {work′ : List ℤ} {r : Outcome} → s .criterion ≡ 0 → 1 ≤ s .limit
+    → Limited s soft mark codedSoft codedMark w soft′ mark′ codedSoft′ codedMark′ work′ r
+    → Ran s mask soft mark codedSoft codedMark w soft′ mark′ codedSoft′ codedMark′ work′ r
+ran-limited s mask {w = w} never some limited =
+    let e : endOf s mask w ≡ record { iteration = s .limit; reason = 2 }
+    = ending-last (held s mask w) (s .limit) some (λ j p q. rw never) in
+    record {
+      answer = limited .answer ∙ rw e;
+      work-is = limited .work-is ∙ rw e;
+      soft-is = limited .soft-is;
+      mark-is = limited .mark-is;
+      coded-soft-is = limited .coded-soft-is;
+      coded-mark-is = limited .coded-mark-is;
+    }
 
 module _ (s : Settings) (mask : List ℕ) (llr soft : List ℤ) (mark : List ℕ) (codedSoft : List ℤ) (codedMark : List ℕ) (work : List ℤ) where
   abbrev number : ℕ

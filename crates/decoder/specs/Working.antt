@@ -73,3 +73,13 @@ pub record Ran (s : Settings) (mask : List ℕ) (soft : List ℤ) (mark : List �
   pub mark-is : mark′ ≡ overwrite (2 ^ s .m) (markAt s work′) mark
   pub coded-soft-is : codedSoft′ ≡ overwrite (2 ^ s .m) (codedSoftAt s work′) codedSoft
   pub coded-mark-is : codedMark′ ≡ overwrite (2 ^ s .m) (codedMarkAt s work′) codedMark
+
+-- a run under the criterion that never holds
+pub record Limited (s : Settings) (soft : List ℤ) (mark : List ℕ) (codedSoft : List ℤ) (codedMark : List ℕ) (work soft′ : List ℤ) (mark′ : List ℕ)
+    (codedSoft′ : List ℤ) (codedMark′ : List ℕ) (work′ : List ℤ) (r : Outcome) : Type 0 where
+  pub answer : resultOf r ≡ ended (s .limit) 2
+  pub work-is : work′ ≡ iterations (ruleOf s) (s .m) (s .limit) work
+  pub soft-is : soft′ ≡ overwrite (2 ^ s .m) (softAt s work′) soft
+  pub mark-is : mark′ ≡ overwrite (2 ^ s .m) (markAt s work′) mark
+  pub coded-soft-is : codedSoft′ ≡ overwrite (2 ^ s .m) (codedSoftAt s work′) codedSoft
+  pub coded-mark-is : codedMark′ ≡ overwrite (2 ^ s .m) (codedMarkAt s work′) codedMark

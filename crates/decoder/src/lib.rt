@@ -8,12 +8,12 @@ ghost use lib.ListN.{length, getD};
 ghost use Rattle.calls.specs.Memory.{overwrite};
 ghost use Rattle.message.specs.Message.{add};
 ghost use Rattle.message.specs.MessageLaws.{Tested};
-ghost use Rattle.sweeps.specs.Iteration.{iteration, start};
+ghost use Rattle.sweeps.specs.Iteration.{iterations};
 ghost use Rattle.sweeps.specs.IterationLaws.{Ready};
 ghost use Rattle.criteria.specs.Marks.{markOf};
 ghost use Rattle.criteria.specs.Working.{SoftValues, MarkBytes};
 ghost use Rattle.decoder.specs.Decoder.{ruleOf, softAt, markAt, codedSoftAt, codedMarkAt, criterionOf, Decoded};
-ghost use Rattle.decoder.specs.Working.{rowSum, rowMark, Advanced, Judged, Stepped, Ran};
+ghost use Rattle.decoder.specs.Working.{rowSum, rowMark, Advanced, Judged, Stepped, Ran, Limited};
 use calls::Answer;
 use calls::Refusal;
 use criteria::Criterion;
@@ -273,6 +273,38 @@ fn run(
     Outcome::Ended(iterations, Reason::Limit)
 }
 
+// As many iterations.
+fn iterate_times(rule: MinSum, m: u32, count: u32, work: &mut [i16])
+    requires { ⌜ Ready rule m (now work) ⌝ }
+    ensures { λ _. ⌜ now (work .exit) ≡ iterations rule m count (now (work .entry)) ⌝ }
+{
+    let mut t = 0;
+    while t < count {
+        sweeps::iterate(rule, m, work);
+        t += 1;
+    }
+}
+
+// Criterion 0 never holds, so only the last iteration's outputs are wanted.
+fn run_to_limit(
+    settings: Settings,
+    soft: &mut [i16],
+    mark: &mut [u8],
+    coded_soft: &mut [i16],
+    coded_mark: &mut [u8],
+    work: &mut [i16],
+) -> Outcome
+    requires { ⌜ Ready (ruleOf settings) (settings .m) (now work) ⌝ }
+    requires { ⌜ (2 ^ settings .m ≤ length (now soft)) × (2 ^ settings .m ≤ length (now mark)) × (2 ^ settings .m ≤ length (now «coded_soft»)) × (2 ^ settings .m ≤ length (now «coded_mark»)) ⌝ }
+    ensures { λ r. ⌜ Limited settings (now (soft .entry)) (now (mark .entry)) (now («coded_soft» .entry)) (now («coded_mark» .entry)) (now (work .entry)) (now (soft .exit)) (now (mark .exit)) (now («coded_soft» .exit)) (now («coded_mark» .exit)) (now (work .exit)) r ⌝ }
+{
+    let m = settings.m;
+    let limit = settings.limit;
+    iterate_times(rule_of(settings), m, limit, work);
+    outputs(settings, work, soft, mark, coded_soft, coded_mark);
+    Outcome::Ended(limit, Reason::Limit)
+}
+
 // Every check comes before the first write.
 pub fn decode(
     settings: Settings,
@@ -297,7 +329,11 @@ pub fn decode(
         Answer::Refused(refusal) => Outcome::Refused(refusal),
         Answer::Done => {
             let m = settings.m;
+            let criterion = settings.criterion;
             sweeps::begin(rule_of(settings), m, mask, llr, work);
+            if criterion == 0 {
+                return run_to_limit(settings, soft, mark, coded_soft, coded_mark, work);
+            }
             run(settings, mask, soft, mark, coded_soft, coded_mark, work)
         }
     }
