@@ -1,0 +1,123 @@
+// The decoder's small blocks: those that document 01 works by hand, and values at the ends of what is accepted.
+// Every slice that is lent to be written is one element longer than needed and held nines before, so each list ends in 9.
+use crate::say;
+use settings::Settings;
+
+// One call of the decoder: what it is handed, its answer, and the lent slices afterwards.
+pub fn decode(
+    name: &[u8],
+    settings: Settings,
+    mask: &[u8],
+    llr: &[i16],
+    soft: &mut [i16],
+    mark: &mut [u8],
+    coded_soft: &mut [i16],
+    coded_mark: &mut [u8],
+    work: &mut [i16],
+) {
+    say::text(b"decode ");
+    say::text(name);
+    say::settings(settings);
+    say::bytes(b" mask", mask);
+    say::values(b" llr", llr);
+    say::outcome(decoder::decode(
+        settings,
+        mask,
+        llr,
+        soft,
+        mark,
+        coded_soft,
+        coded_mark,
+        work,
+    ));
+    say::values(b" soft", soft);
+    say::bytes(b" mark", mark);
+    say::values(b" coded", coded_soft);
+    say::bytes(b" codedmark", coded_mark);
+    say::values(b" work", work);
+    say::text(b"\n");
+}
+
+// The same with slices for two positions.
+pub fn pair(name: &[u8], settings: Settings, mask: &[u8], llr: &[i16]) {
+    let mut soft = [9i16; 3];
+    let mut mark = [9u8; 3];
+    let mut coded_soft = [9i16; 3];
+    let mut coded_mark = [9u8; 3];
+    let mut work = [9i16; 9];
+    decode(
+        name,
+        settings,
+        mask,
+        llr,
+        &mut soft,
+        &mut mark,
+        &mut coded_soft,
+        &mut coded_mark,
+        &mut work,
+    );
+}
+
+// The settings of a block of two positions with the ceiling 31.
+pub fn of(scale: u32, limit: u32, criterion: u32, operand: u32) -> Settings {
+    Settings {
+        m: 1,
+        ceiling: 31,
+        scale,
+        limit,
+        criterion,
+        operand,
+    }
+}
+
+// P1 to P5.
+pub fn first_blocks() {
+    pair(b"P1", of(16, 10, 1, 0), &[1, 0], &[5, -3]);
+    pair(b"P2", of(16, 10, 1, 0), &[1, 0], &[-5, 3]);
+    pair(b"P3", of(15, 10, 1, 0), &[1, 0], &[5, -3]);
+    pair(b"P4", of(16, 10, 1, 0), &[1, 0], &[3, -3]);
+    pair(b"P5", of(16, 10, 1, 0), &[0, 1], &[7, -31]);
+}
+
+// P6 and P7: the least size, and steady marks.
+pub fn other_criteria() {
+    pair(b"P6", of(16, 10, 2, 2), &[1, 0], &[5, -3]);
+    pair(b"P6", of(16, 10, 2, 3), &[1, 0], &[5, -3]);
+    pair(b"P7", of(16, 10, 3, 1), &[1, 0], &[5, -3]);
+    pair(b"P7", of(16, 1, 3, 1), &[1, 0], &[5, -3]);
+}
+
+// P8, of four positions.
+pub fn four_positions() {
+    let settings = Settings {
+        m: 2,
+        ceiling: 31,
+        scale: 16,
+        limit: 10,
+        criterion: 1,
+        operand: 0,
+    };
+    let mut soft = [9i16; 5];
+    let mut mark = [9u8; 5];
+    let mut coded_soft = [9i16; 5];
+    let mut coded_mark = [9u8; 5];
+    let mut work = [9i16; 25];
+    decode(
+        b"P8",
+        settings,
+        &[1, 1, 1, 0],
+        &[1, 2, 3, 4],
+        &mut soft,
+        &mut mark,
+        &mut coded_soft,
+        &mut coded_mark,
+        &mut work,
+    );
+}
+
+// LLRs of the ceiling's size, the highest limit, and a mask and LLRs that are longer than needed: what lies behind is not read.
+pub fn accepted_ends() {
+    pair(b"accepted", of(16, 10, 1, 0), &[1, 0], &[31, -31]);
+    pair(b"accepted", of(16, 200, 1, 0), &[1, 0], &[3, -3]);
+    pair(b"accepted", of(16, 3, 0, 0), &[1, 0, 7], &[5, -3, 99]);
+}

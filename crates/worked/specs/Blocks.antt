@@ -1,0 +1,175 @@
+-- Document 01, "Blocks worked by hand": P1 to P8 and the boundary values, and "Readings that look plausible". A table of cases with the values
+-- worked by hand, and what the definitions of the decoder's contract give for them. Computed facts.
+use Prim.Native.Nat.{ℕ, zero, suc, _+_, _*_, _^_}
+use mathlib.Core.Path.{_≡_, refl}
+use mathlib.Core.List.{List, [], _∷_, _++_, map}
+use lib.IntN.{ℤ, pos, negℤ}
+use Rattle.message.specs.Message.{add, f}
+use Rattle.sweeps.specs.Workspace.{setRow}
+use Rattle.sweeps.specs.Iteration.{leftStep, rightStep, start}
+use Rattle.settings.specs.declared.Settings.{Settings}
+use Rattle.settings.specs.declared.Room.{Room}
+use Rattle.decoder.specs.Decoder.{
+  Result,
+  refused,
+  ended,
+  after,
+  ending,
+  roomOf,
+  decodeResult,
+  decodeSoft,
+  decodeMark,
+  decodeCodedSoft,
+  decodeCodedMark,
+  decodeWork,
+}
+
+abbrev minus : ℕ → ℤ
+minus n = negℤ (pos n)
+
+-- ---- a case: what the decoder is handed
+
+record Case : Type 0 where
+  settings : Settings
+  mask : List ℕ
+  llr : List ℤ
+
+-- C = 31 throughout; the arguments are m, k, T, criterion, operand, mask, LLRs
+abbrev block : ℕ → ℕ → ℕ → ℕ → ℕ → List ℕ → List ℤ → Case
+block m k T criterion operand mask llr = record {
+  settings = record { m = m; ceiling = 31; scale = k; limit = T; criterion = criterion; operand = operand };
+  mask = mask;
+  llr = llr;
+}
+
+-- ---- what the memory holds before: each slice one element longer than needed, with 99 or 9 in all of it
+
+module _ {A : Type 0} where
+  abbrev filled : ℕ → A → List A
+  filled zero a = []
+  filled (suc n) a = a ∷ filled n a
+
+abbrev oldSoft : Case → List ℤ
+oldSoft c = filled (2 ^ c .settings .m + 1) (pos 99)
+
+abbrev oldMark : Case → List ℕ
+oldMark c = filled (2 ^ c .settings .m + 1) 9
+
+abbrev oldWork : Case → List ℤ
+oldWork c = filled (2 * (c .settings .m + 1) * 2 ^ c .settings .m + 1) (pos 99)
+
+abbrev room : Case → Room
+room c = roomOf (oldSoft c) (oldMark c) (oldSoft c) (oldMark c) (oldWork c)
+
+-- ---- what the contract says of a case
+
+record Answer : Type 0 where
+  result : Result
+  soft : List ℤ
+  mark : List ℕ
+  codedSoft : List ℤ
+  codedMark : List ℕ
+
+abbrev answerOf : Case → Answer
+answerOf c =
+    let s = c .settings in
+    record {
+      result = decodeResult s (c .mask) (c .llr) (room c) (oldWork c);
+      soft = decodeSoft s (c .mask) (c .llr) (room c) (oldWork c) (oldSoft c);
+      mark = decodeMark s (c .mask) (c .llr) (room c) (oldWork c) (oldMark c);
+      codedSoft = decodeCodedSoft s (c .mask) (c .llr) (room c) (oldWork c) (oldSoft c);
+      codedMark = decodeCodedMark s (c .mask) (c .llr) (room c) (oldWork c) (oldMark c);
+    }
+
+-- ---- what was worked by hand: iteration, reason, soft outputs, marks, coded soft outputs, coded marks. The element behind keeps its 99 or 9
+
+abbrev ends : ℕ → ℕ → List ℤ → List ℕ → List ℤ → List ℕ → Answer
+ends iteration reason soft mark codedSoft codedMark = record {
+  result = ended iteration reason;
+  soft = soft ++ pos 99 ∷ [];
+  mark = mark ++ 9 ∷ [];
+  codedSoft = codedSoft ++ pos 99 ∷ [];
+  codedMark = codedMark ++ 9 ∷ [];
+}
+
+-- a refusal of a block of two positions writes nothing
+abbrev refuses : ℕ → Answer
+refuses number = record {
+  result = refused number;
+  soft = pos 99 ∷ pos 99 ∷ pos 99 ∷ [];
+  mark = 9 ∷ 9 ∷ 9 ∷ [];
+  codedSoft = pos 99 ∷ pos 99 ∷ pos 99 ∷ [];
+  codedMark = 9 ∷ 9 ∷ 9 ∷ [];
+}
+
+-- ---- the table: a case, and what was worked by hand for it
+
+record Line : Type 0 where
+  given : Case
+  expected : Answer
+
+abbrev line : Case → Answer → Line
+line given expected = record { given = given; expected = expected }
+
+abbrev blocks : List Line
+blocks =
+    -- P1. With the lower R in the second formula of L, soft output 1 would be -3
+    line (block 1 16 10 1 0 (1 ∷ 0 ∷ []) (pos 5 ∷ minus 3 ∷ []))
+    (ends 1 1 (pos 28 ∷ pos 2 ∷ []) (0 ∷ 0 ∷ []) (pos 2 ∷ pos 2 ∷ []) (0 ∷ 0 ∷ []))
+    -- P2
+    ∷ line (block 1 16 10 1 0 (1 ∷ 0 ∷ []) (minus 5 ∷ pos 3 ∷ []))
+    (ends 1 1 (pos 28 ∷ minus 2 ∷ []) (0 ∷ 1 ∷ []) (minus 2 ∷ minus 2 ∷ []) (1 ∷ 1 ∷ []))
+    -- P3. With the negative product -45 shifted by 4 places, soft output 0 would be 28 and coded soft output 0 would be 2
+    ∷ line (block 1 15 10 1 0 (1 ∷ 0 ∷ []) (pos 5 ∷ minus 3 ∷ []))
+    (ends 1 1 (pos 29 ∷ pos 1 ∷ []) (0 ∷ 0 ∷ []) (pos 3 ∷ pos 1 ∷ []) (0 ∷ 0 ∷ []))
+    -- P4. With zero taken as positive, criterion 1 would hold at iteration 1
+    ∷ line (block 1 16 10 1 0 (1 ∷ 0 ∷ []) (pos 3 ∷ minus 3 ∷ []))
+    (ends 10 2 (pos 28 ∷ pos 0 ∷ []) (0 ∷ 2 ∷ []) (pos 0 ∷ pos 0 ∷ []) (2 ∷ 2 ∷ []))
+    -- P5
+    ∷ line (block 1 16 10 1 0 (0 ∷ 1 ∷ []) (pos 7 ∷ minus 31 ∷ []))
+    (ends 10 2 (pos 0 ∷ pos 0 ∷ []) (2 ∷ 2 ∷ []) (pos 7 ∷ pos 0 ∷ []) (0 ∷ 2 ∷ []))
+    -- P6, operands 2 and 3. With "larger" for "at least", operand 2 would end at 10 with reason 2
+    ∷ line (block 1 16 10 2 2 (1 ∷ 0 ∷ []) (pos 5 ∷ minus 3 ∷ []))
+    (ends 1 1 (pos 28 ∷ pos 2 ∷ []) (0 ∷ 0 ∷ []) (pos 2 ∷ pos 2 ∷ []) (0 ∷ 0 ∷ []))
+    ∷ line (block 1 16 10 2 3 (1 ∷ 0 ∷ []) (pos 5 ∷ minus 3 ∷ []))
+    (ends 10 2 (pos 28 ∷ pos 2 ∷ []) (0 ∷ 0 ∷ []) (pos 2 ∷ pos 2 ∷ []) (0 ∷ 0 ∷ []))
+    -- P7, T = 10 and T = 1
+    ∷ line (block 1 16 10 3 1 (1 ∷ 0 ∷ []) (pos 5 ∷ minus 3 ∷ []))
+    (ends 2 1 (pos 28 ∷ pos 2 ∷ []) (0 ∷ 0 ∷ []) (pos 2 ∷ pos 2 ∷ []) (0 ∷ 0 ∷ []))
+    ∷ line (block 1 16 1 3 1 (1 ∷ 0 ∷ []) (pos 5 ∷ minus 3 ∷ []))
+    (ends 1 2 (pos 28 ∷ pos 2 ∷ []) (0 ∷ 0 ∷ []) (pos 2 ∷ pos 2 ∷ []) (0 ∷ 0 ∷ []))
+    -- P8
+    ∷ line (block 2 16 10 1 0 (1 ∷ 1 ∷ 1 ∷ 0 ∷ []) (pos 1 ∷ pos 2 ∷ pos 3 ∷ pos 4 ∷ []))
+    (ends 1 1 (pos 31 ∷ pos 31 ∷ pos 31 ∷ pos 6 ∷ []) (0 ∷ 0 ∷ 0 ∷ 0 ∷ []) (pos 7 ∷ pos 7 ∷ pos 9 ∷ pos 9 ∷ []) (0 ∷ 0 ∷ 0 ∷ 0 ∷ []))
+    -- two sums, each cut: L(0, 2) is -20 - 20, cut to -31, and soft output 2 is -31 + 31. Cut only once, it would be -9
+    ∷ line (block 2 16 1 0 0 (1 ∷ 1 ∷ 1 ∷ 0 ∷ []) (minus 20 ∷ pos 20 ∷ minus 20 ∷ pos 20 ∷ []))
+    (ends 1 2 (pos 20 ∷ pos 31 ∷ pos 0 ∷ pos 31 ∷ []) (0 ∷ 0 ∷ 2 ∷ 0 ∷ []) (minus 9 ∷ pos 29 ∷ minus 9 ∷ pos 29 ∷ []) (1 ∷ 0 ∷ 1 ∷ 0 ∷ []))
+    -- LLRs of 31, -31, 32 and -32768
+    ∷ line (block 1 16 10 1 0 (1 ∷ 0 ∷ []) (pos 31 ∷ minus 3 ∷ []))
+    (ends 1 1 (pos 28 ∷ pos 28 ∷ []) (0 ∷ 0 ∷ []) (pos 28 ∷ pos 28 ∷ []) (0 ∷ 0 ∷ []))
+    ∷ line (block 1 16 10 1 0 (1 ∷ 0 ∷ []) (minus 31 ∷ pos 3 ∷ []))
+    (ends 1 1 (pos 28 ∷ minus 28 ∷ []) (0 ∷ 1 ∷ []) (minus 28 ∷ minus 28 ∷ []) (1 ∷ 1 ∷ []))
+    ∷ line (block 1 16 10 1 0 (1 ∷ 0 ∷ []) (pos 32 ∷ minus 3 ∷ [])) (refuses 10)
+    ∷ line (block 1 16 10 1 0 (1 ∷ 0 ∷ []) (pos 5 ∷ minus 32768 ∷ [])) (refuses 10)
+    -- T = 200, by criterion 1 and to the limit, T = 0 and T = 201
+    ∷ line (block 1 16 200 1 0 (1 ∷ 0 ∷ []) (pos 5 ∷ minus 3 ∷ []))
+    (ends 1 1 (pos 28 ∷ pos 2 ∷ []) (0 ∷ 0 ∷ []) (pos 2 ∷ pos 2 ∷ []) (0 ∷ 0 ∷ []))
+    ∷ line (block 1 16 200 0 0 (1 ∷ 0 ∷ []) (pos 5 ∷ minus 3 ∷ []))
+    (ends 200 2 (pos 28 ∷ pos 2 ∷ []) (0 ∷ 0 ∷ []) (pos 2 ∷ pos 2 ∷ []) (0 ∷ 0 ∷ []))
+    ∷ line (block 1 16 0 1 0 (1 ∷ 0 ∷ []) (pos 5 ∷ minus 3 ∷ [])) (refuses 4)
+    ∷ line (block 1 16 201 1 0 (1 ∷ 0 ∷ []) (pos 5 ∷ minus 3 ∷ [])) (refuses 4)
+    ∷ []
+
+pub worked : map (λ l. answerOf (l .given)) blocks ≡ map (λ l. l .expected) blocks
+unfolding add f setRow leftStep rightStep start after ending
+worked = refl
+
+-- ---- the workspace of P1 at its end: L(0, .), L(1, .), R(0, .), R(1, .), and the element behind
+
+abbrev first : Case
+first = block 1 16 10 1 0 (1 ∷ 0 ∷ []) (pos 5 ∷ minus 3 ∷ [])
+
+pub first-workspace : decodeWork (first .settings) (first .mask) (first .llr) (room first) (oldWork first)
+    ≡ minus 3 ∷ pos 2 ∷ pos 5 ∷ minus 3 ∷ pos 31 ∷ pos 0 ∷ minus 3 ∷ pos 5 ∷ pos 99 ∷ []
+unfolding add f setRow leftStep rightStep start after ending
+first-workspace = refl
