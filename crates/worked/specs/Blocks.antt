@@ -1,9 +1,15 @@
--- Document 01, "Blocks worked by hand": P1 to P8 and the boundary values, and "Readings that look plausible". A table of cases with the values
--- worked by hand, and what the definitions of the decoder's contract give for them. Computed facts.
+-- Document 01, "Blocks worked by hand": P1 to P10 and the boundary values, and "Readings that look plausible". A table of cases with the values
+-- worked by hand, and what the definitions of the contracts of decoder, coder and front give for them. Computed facts.
 use Prim.Native.Nat.{ℕ, zero, suc, _+_, _*_, _^_}
 use mathlib.Core.Path.{_≡_, refl}
 use mathlib.Core.List.{List, [], _∷_, _++_, map}
 use lib.IntN.{ℤ, pos, negℤ}
+use lib.Ieee.{Float, binary32, ofBits, mul, neg}
+use Rattle.polar.specs.declared.Code.{Code}
+use Rattle.polar.specs.Code.{encodeBlock}
+use Rattle.channel.specs.declared.Channel.{Channel}
+use Rattle.channel.specs.declared.Channel.the-variants.{Gaussian, Flipping}
+use Rattle.channel.specs.Front.{withSign, quantised, isFinite, isAboveZero, frontLlrs}
 use Rattle.message.specs.Message.{add, f}
 use Rattle.sweeps.specs.Workspace.{setRow}
 use Rattle.sweeps.specs.Iteration.{leftStep, rightStep, start}
@@ -63,7 +69,7 @@ room c = roomOf (oldSoft c) (oldMark c) (oldSoft c) (oldMark c) (oldWork c)
 
 -- ---- what the contract says of a case
 
-record Answer : Type 0 where
+pub record Answer : Type 0 where
   result : Result
   soft : List ℤ
   mark : List ℕ
@@ -102,14 +108,39 @@ refuses number = record {
   codedMark = 9 ∷ 9 ∷ 9 ∷ [];
 }
 
--- ---- the table: a case, and what was worked by hand for it
+-- ---- coder and front: the block of a message at four information positions, and the LLRs of two samples with C = 31
+
+abbrev float : ℕ → Float
+float bits = ofBits binary32 bits
+
+abbrev blockOf : List ℕ → List ℕ
+blockOf u = encodeBlock (record { m = 2 }) (filled 4 0) u (filled 5 9)
+
+abbrev llrsOf : Channel → List Float → List ℤ
+llrsOf channel samples = frontLlrs 1 31 channel samples (filled 3 (pos 99))
+
+-- ---- the table: what is found for a case by the definitions, and what was worked by hand for it
+
+pub data Found : Type 0 where
+  outputs : Answer → Found
+  sent : List ℕ → Found
+  llrs : List ℤ → Found
 
 record Line : Type 0 where
-  given : Case
-  expected : Answer
+  found : Found
+  expected : Found
 
 abbrev line : Case → Answer → Line
-line given expected = record { given = given; expected = expected }
+line given expected = record { found = outputs (answerOf given); expected = outputs expected }
+
+abbrev coded : List ℕ → List ℕ → Line
+coded u expected = record { found = sent (blockOf u); expected = sent (expected ++ 9 ∷ []) }
+
+abbrev received : Channel → List ℤ → Line
+received channel expected = record {
+  found = llrs (llrsOf channel (float 0x3f80_0000 ∷ float 0xbf80_0000 ∷ []));
+  expected = llrs (expected ++ pos 99 ∷ []);
+}
 
 abbrev blocks : List Line
 blocks =
@@ -141,6 +172,12 @@ blocks =
     -- P8
     ∷ line (block 2 16 10 1 0 (1 ∷ 1 ∷ 1 ∷ 0 ∷ []) (pos 1 ∷ pos 2 ∷ pos 3 ∷ pos 4 ∷ []))
     (ends 1 1 (pos 31 ∷ pos 31 ∷ pos 31 ∷ pos 6 ∷ []) (0 ∷ 0 ∷ 0 ∷ 0 ∷ []) (pos 7 ∷ pos 7 ∷ pos 9 ∷ pos 9 ∷ []) (0 ∷ 0 ∷ 0 ∷ 0 ∷ []))
+    -- P9
+    ∷ coded (0 ∷ 0 ∷ 0 ∷ 1 ∷ []) (1 ∷ 1 ∷ 1 ∷ 1 ∷ [])
+    ∷ coded (0 ∷ 1 ∷ 0 ∷ 0 ∷ []) (1 ∷ 1 ∷ 0 ∷ 0 ∷ [])
+    -- P10, the samples 1 and -1 with the factor 1.5 and with the weight 0.25
+    ∷ received (Gaussian (float 0x3fc0_0000)) (pos 2 ∷ minus 2 ∷ [])
+    ∷ received (Flipping (float 0x3e80_0000)) (pos 0 ∷ pos 0 ∷ [])
     -- two sums, each cut: L(0, 2) is -20 - 20, cut to -31, and soft output 2 is -31 + 31. Cut only once, it would be -9
     ∷ line (block 2 16 1 0 0 (1 ∷ 1 ∷ 1 ∷ 0 ∷ []) (minus 20 ∷ pos 20 ∷ minus 20 ∷ pos 20 ∷ []))
     (ends 1 2 (pos 20 ∷ pos 31 ∷ pos 0 ∷ pos 31 ∷ []) (0 ∷ 0 ∷ 2 ∷ 0 ∷ []) (minus 9 ∷ pos 29 ∷ minus 9 ∷ pos 29 ∷ []) (1 ∷ 0 ∷ 1 ∷ 0 ∷ []))
@@ -160,8 +197,8 @@ blocks =
     ∷ line (block 1 16 201 1 0 (1 ∷ 0 ∷ []) (pos 5 ∷ minus 3 ∷ [])) (refuses 4)
     ∷ []
 
-pub worked : map (λ l. answerOf (l .given)) blocks ≡ map (λ l. l .expected) blocks
-unfolding add f setRow leftStep rightStep start after ending
+pub worked : map (λ l. l .found) blocks ≡ map (λ l. l .expected) blocks
+unfolding add f setRow leftStep rightStep start after ending ofBits mul neg withSign quantised isFinite isAboveZero
 worked = refl
 
 -- ---- the workspace of P1 at its end: L(0, .), L(1, .), R(0, .), R(1, .), and the element behind

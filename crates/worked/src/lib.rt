@@ -1,2 +1,2 @@
-// The blocks worked by hand of document 01, P1 to P8, and its boundary values: one table of cases, computed from the definitions that the
-// decoder's contract cites (specs/Blocks.antt). It sees the decoder's definitions and runs nothing; P9 is proved in `polar`, P10 in `channel`.
+// The blocks worked by hand of document 01, P1 to P10, and its boundary values: one table of cases, computed from the definitions that the
+// contracts of coder, front and decoder cite (specs/Blocks.antt). It sees those definitions and runs nothing.
