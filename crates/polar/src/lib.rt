@@ -18,12 +18,13 @@ pub struct Code {
     pub m: u32,
 }
 
-// N from m, and a distance from the digit that it stands for. Offered to the crates above, which have tested m.
+// N from m, and a distance from the digit that it stands for. Offered to the crates above, which have tested m. The shift is of 32 bits and
+// widened afterwards: of `p < 1 << m` at one width LLVM makes `p >> m == 0`, no longer sees how often a loop runs, and does not vectorise it.
 pub fn power_of_two(k: u32) -> usize
     requires { ⌜ k ≤ 10 ⌝ }
     ensures { λ r. ⌜ r ≡ 2 ^ k ⌝ }
 {
-    1 << k
+    (1u32 << k) as usize
 }
 
 fn larger(a: u8, b: u8) -> u8
