@@ -21,6 +21,8 @@ use Rattle.calls.specs.declared.Refusal.the-variants.{
   ChannelFactor,
   SampleNotFinite,
   MessageBit,
+  MalformedText,
+  UnusableTally,
 }
 use Rattle.calls.specs.Memory.{unlessRefused}
 use Rattle.calls.specs.Numbers.{refusalNumber, check, andThen, between}
@@ -40,6 +42,8 @@ refusal-number LlrAboveCeiling f = f 9 refl
 refusal-number ChannelFactor f = f 10 refl
 refusal-number SampleNotFinite f = f 11 refl
 refusal-number MessageBit f = f 12 refl
+refusal-number MalformedText f = f 13 refl
+refusal-number UnusableTally f = f 14 refl
 
 pub refused-first : (r : Refusal) (next : ℕ) → andThen (refusalNumber r) next ≡ refusalNumber r
 refused-first r next = refusal-number r (λ n e. rw e)

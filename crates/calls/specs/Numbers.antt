@@ -17,6 +17,8 @@ use Rattle.calls.specs.declared.Refusal.the-variants.{
   ChannelFactor,
   SampleNotFinite,
   MessageBit,
+  MalformedText,
+  UnusableTally,
 }
 use Rattle.calls.specs.declared.Answer.{Answer}
 use Rattle.calls.specs.declared.Answer.the-variants.{Done, Refused}
@@ -35,6 +37,8 @@ refusalNumber LlrAboveCeiling = 10
 refusalNumber ChannelFactor = 11
 refusalNumber SampleNotFinite = 12
 refusalNumber MessageBit = 13
+refusalNumber MalformedText = 14
+refusalNumber UnusableTally = 15
 
 -- the number of an answer; 0, which is no refusal's number, stands for an accepted call
 abbrev pub numberOf : Answer → ℕ

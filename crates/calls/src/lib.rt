@@ -18,6 +18,8 @@ pub enum Refusal {
     ChannelFactor,
     SampleNotFinite,
     MessageBit,
+    MalformedText,
+    UnusableTally,
 }
 
 // The answer of a call whose results all stand in lent memory.
@@ -46,6 +48,8 @@ pub fn number(answer: Answer) -> u32
             Refusal::ChannelFactor => 11,
             Refusal::SampleNotFinite => 12,
             Refusal::MessageBit => 13,
+            Refusal::MalformedText => 14,
+            Refusal::UnusableTally => 15,
         },
     }
 }
