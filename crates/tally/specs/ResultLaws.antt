@@ -1,0 +1,71 @@
+-- What the decoder can answer: a refusal from 1 to 10, or an ending at an iteration from 1 to 200 by reason 1 or 2.
+use Prim.Native.Nat.{ℕ, zero, suc, _+_, _-_, _≤_}
+use mathlib.Core.Path.{_≡_, refl}
+use mathlib.Core.Bool.{Bool, true, false, cond}
+use mathlib.Core.List.{List}
+use native.Mathlib.Omega.{arith}
+use lib.Dec.{lit≤}
+use lib.IntN.{ℤ}
+use Rattle.calls.specs.Numbers.{check, andThen}
+use Rattle.settings.specs.declared.Settings.{Settings}
+use Rattle.settings.specs.declared.Room.{Room}
+use Rattle.settings.specs.Settings.{settingsNumber, decodeNumber}
+use Rattle.settings.specs.SettingsLaws.{accepted}
+use Rattle.decoder.specs.Decoder.{Ending, endingFrom, ending, Result, refused, ended, byNumber, decodeResult}
+
+abbrev pub DecoderAnswer : Result → Type 0
+DecoderAnswer (refused number) = (1 ≤ number) × (number ≤ 10)
+DecoderAnswer (ended iteration reason) = (1 ≤ iteration) × (iteration ≤ 200) × (1 ≤ reason) × (reason ≤ 2)
+
+-- ---- endings
+
+-- at an iteration from low to high, by reason 1 or 2
+record EndsWithin (low high : ℕ) (e : Ending) : Type 0 where
+  pub low-le : low ≤ e .iteration
+  pub le-high : e .iteration ≤ high
+  pub reason-some : 1 ≤ e .reason
+  pub reason-le : e .reason ≤ 2
+
+here : {low high : ℕ} (t reason : ℕ) → low ≤ t → t ≤ high → 1 ≤ reason → reason ≤ 2 → EndsWithin low high (record { iteration = t; reason = reason })
+here t reason l h some le = record { low-le = l; le-high = h; reason-some = some; reason-le = le }
+
+either : {low high : ℕ} {a b : Ending} (test : Bool) → EndsWithin low high a → EndsWithin low high b → EndsWithin low high (cond test a b)
+either true l r = l
+either false l r = r
+
+ending-from : (held : ℕ → Bool) (n a : ℕ) → EndsWithin a (a + n) (endingFrom held a n)
+ending-from held zero a =
+    either (held a) (here a 1 (omega arith) (omega arith) (omega arith) (omega arith)) (here a 2 (omega arith) (omega arith) (omega arith) (omega arith))
+ending-from held (suc n) a =
+    let later = ending-from held n (suc a) in
+    either (held a) (here a 1 (omega arith) (omega arith) (omega arith) (omega arith))
+    (here _ _ (omega arith) (omega arith) (later .reason-some) (later .reason-le))
+
+-- ---- the number
+
+check-le : {most : ℕ} (test : Bool) (number next : ℕ) → number ≤ most → next ≤ most → check test number next ≤ most
+check-le true number next h k = k
+check-le false number next h k = h
+
+then-le : {most : ℕ} (first next : ℕ) → first ≤ most → next ≤ most → andThen first next ≤ most
+then-le zero next h k = k
+then-le (suc number) next h k = h
+
+by-number : (number : ℕ) (e : Ending) → number ≤ 10 → (number ≡ 0 → EndsWithin 1 200 e) → DecoderAnswer (byNumber number e)
+by-number zero e h w = let r = w refl in (r .low-le, r .le-high, r .reason-some, r .reason-le)
+by-number (suc number) e h w = (omega arith, h)
+
+module _ (s : Settings) (mask : List ℕ) (llr : List ℤ) (room : Room) (work : List ℤ) where
+  number-le : decodeNumber s mask llr room ≤ 10
+  number-le =
+      then-le (settingsNumber s) _ (search (check-le, lit≤) depth 9) (search (check-le, lit≤) depth 9)
+
+  ending-within : decodeNumber s mask llr room ≡ 0 → EndsWithin 1 200 (ending s mask llr work)
+  unfolding ending
+  ending-within h =
+      let a = accepted s mask llr room h in
+      let e = ending-from _ (s .limit - 1) 1 in
+      here _ _ (e .low-le) (omega (arith, a .limit-some, a .limit-le, e .le-high)) (e .reason-some) (e .reason-le)
+
+  pub decoder-answer : DecoderAnswer (decodeResult s mask llr room work)
+  decoder-answer = by-number (decodeNumber s mask llr room) (ending s mask llr work) number-le ending-within
