@@ -1,10 +1,10 @@
--- What an accepted call tells of its tests, and that no refusal's number is 0.
-use Prim.Native.Nat.{ℕ, zero, suc, _≤_}
+-- What an accepted call tells of its tests, and the range of a refusal's number.
+use Prim.Native.Nat.{ℕ, zero, suc, _<_, _≤_}
 use mathlib.Core.Path.{_≡_, refl}
 use mathlib.Core.List.{List}
 use mathlib.Core.Bool.{Bool, true, false, _&&_}
 use native.Mathlib.Omega.{arith}
-use lib.Dec.{leb}
+use lib.Dec.{leb, lit<}
 use borrow.Author.Tests.{leb-true}
 use Rattle.calls.specs.declared.Refusal.{Refusal}
 use Rattle.calls.specs.declared.Refusal.the-variants.{
@@ -27,29 +27,32 @@ use Rattle.calls.specs.declared.Refusal.the-variants.{
 use Rattle.calls.specs.Memory.{unlessRefused}
 use Rattle.calls.specs.Numbers.{refusalNumber, check, andThen, between}
 
--- no refusal's number is 0
-refusal-number : (r : Refusal) {A : Type 0} → ((n : ℕ) → refusalNumber r ≡ suc n → A) → A
-refusal-number BlockLength f = f 0 refl
-refusal-number Ceiling f = f 1 refl
-refusal-number Scale f = f 2 refl
-refusal-number Limit f = f 3 refl
-refusal-number Criterion f = f 4 refl
-refusal-number Operand f = f 5 refl
-refusal-number ShortSlice f = f 6 refl
-refusal-number MaskValue f = f 7 refl
-refusal-number NoInformation f = f 8 refl
-refusal-number LlrAboveCeiling f = f 9 refl
-refusal-number ChannelFactor f = f 10 refl
-refusal-number SampleNotFinite f = f 11 refl
-refusal-number MessageBit f = f 12 refl
-refusal-number MalformedText f = f 13 refl
-refusal-number UnusableTally f = f 14 refl
+-- no refusal's number is 0, and none has more than two digits
+refusal-number : (r : Refusal) {A : Type 0} → ((n : ℕ) → refusalNumber r ≡ suc n → n < 99 → A) → A
+refusal-number BlockLength f = f 0 refl (lit< tt)
+refusal-number Ceiling f = f 1 refl (lit< tt)
+refusal-number Scale f = f 2 refl (lit< tt)
+refusal-number Limit f = f 3 refl (lit< tt)
+refusal-number Criterion f = f 4 refl (lit< tt)
+refusal-number Operand f = f 5 refl (lit< tt)
+refusal-number ShortSlice f = f 6 refl (lit< tt)
+refusal-number MaskValue f = f 7 refl (lit< tt)
+refusal-number NoInformation f = f 8 refl (lit< tt)
+refusal-number LlrAboveCeiling f = f 9 refl (lit< tt)
+refusal-number ChannelFactor f = f 10 refl (lit< tt)
+refusal-number SampleNotFinite f = f 11 refl (lit< tt)
+refusal-number MessageBit f = f 12 refl (lit< tt)
+refusal-number MalformedText f = f 13 refl (lit< tt)
+refusal-number UnusableTally f = f 14 refl (lit< tt)
+
+pub refusal-digits : (r : Refusal) → refusalNumber r ≤ 99
+refusal-digits r = refusal-number r (λ n e h. omega arith)
 
 pub refused-first : (r : Refusal) (next : ℕ) → andThen (refusalNumber r) next ≡ refusalNumber r
-refused-first r next = refusal-number r (λ n e. rw e)
+refused-first r next = refusal-number r (λ n e h. rw e)
 
 pub refused-keeps : {A : Type 0} (r : Refusal) (new old : List A) → unlessRefused (refusalNumber r) new old ≡ old
-refused-keeps r new old = refusal-number r (λ n e. rw e)
+refused-keeps r new old = refusal-number r (λ n e h. rw e)
 
 pub check-passed : (test : Bool) (number next : ℕ) → check test (suc number) next ≡ 0 → (test ≡ true) × (next ≡ 0)
 check-passed true number next h = (refl, h)

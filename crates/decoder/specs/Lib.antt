@@ -1,3 +1,4 @@
 pub mod Decoder
 pub mod EndingLaws
+pub mod ResultLaws
 pub mod Working

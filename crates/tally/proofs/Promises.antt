@@ -10,7 +10,7 @@ use Rattle.decoder.specs.declared.Outcome.the-variants.{Refused}
 use Rattle.decoder.specs.Decoder.{resultOf, roomOf, Decoded}
 use Rattle.tally.specs.declared.Tally.{Tally}
 use Rattle.tally.specs.Tally.{tallyNumber, counted, TalliedDecode}
-use Rattle.tally.specs.ResultLaws.{DecoderAnswer, decoder-answer}
+use Rattle.decoder.specs.ResultLaws.{DecoderAnswer, decoder-answer}
 
 module _ (t : Tally) (s : Settings) (mask : List ℕ) (llr soft : List ℤ) (mark : List ℕ) (codedSoft : List ℤ) (codedMark : List ℕ) (work : List ℤ) where
   pub tallied-refused : tallyNumber t ≡ 15

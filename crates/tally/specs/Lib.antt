@@ -1,6 +1,5 @@
 pub mod Tally
 pub mod Runs
 pub mod Working
-pub mod ResultLaws
 pub mod TallyLaws
 pub mod Cases

@@ -14,7 +14,7 @@ use Rattle.tally.specs.declared.Tally.{Tally}
 use Rattle.tally.specs.Tally.{endings, tallyNumber, counted, answerBy, tallyBy}
 use Rattle.tally.specs.Runs.{Call, decoded, none, tallyAfter, answers, counts, others, countsOver}
 use Rattle.tally.specs.Working.{single, plus}
-use Rattle.tally.specs.ResultLaws.{DecoderAnswer, decoder-answer}
+use Rattle.decoder.specs.ResultLaws.{DecoderAnswer, decoder-answer}
 
 -- ---- 15
 

@@ -6,7 +6,7 @@ ghost use Rattle.decoder.specs.Decoder.{resultOf};
 ghost use Rattle.tally.specs.Tally.{tallyNumber, counted, TalliedDecode};
 ghost use Rattle.tally.specs.Runs.{none};
 ghost use Rattle.tally.specs.Working.{single, plus};
-ghost use Rattle.tally.specs.ResultLaws.{DecoderAnswer};
+ghost use Rattle.decoder.specs.ResultLaws.{DecoderAnswer};
 ghost use Rattle.tally.specs.TallyLaws.{Usable};
 use calls::Refusal;
 use decoder::Outcome;

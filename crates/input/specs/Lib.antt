@@ -1,0 +1,5 @@
+pub mod Input
+pub mod Answers
+pub mod InputLaws
+pub mod WholeNumbers
+pub mod Cases

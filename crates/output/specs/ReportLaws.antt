@@ -1,0 +1,105 @@
+-- Laws of the output: its lines one by one, that its room suffices, and what the decoder leaves for an accepted block.
+use Prim.Native.Nat.{ℕ, zero, suc, _+_, _-_, _*_, _^_, _≤_, _<_}
+use mathlib.Core.Path.{_≡_, refl, sym, ap, ap₂, _∙_}
+use mathlib.Core.List.{List, [], _∷_, _++_}
+use native.Mathlib.Numerals.{add-one}
+use native.Mathlib.Omega.{arith}
+use lib.IntN.{ℤ, pos, natAbs}
+use lib.ListN.{length, getD, length-append}
+use lib.Pow.{pow-mono}
+use Rattle.calls.specs.Memory.{overwrite, unlessRefused}
+use Rattle.calls.specs.MemoryLaws.{overwrite-at}
+use Rattle.message.specs.MessageLaws.{add-size}
+use Rattle.criteria.specs.CriteriaLaws.{mark-le}
+use Rattle.sweeps.specs.Workspace.{L, R}
+use Rattle.settings.specs.declared.Settings.{Settings}
+use Rattle.settings.specs.declared.Room.{Room}
+use Rattle.settings.specs.Settings.{decodeNumber}
+use Rattle.settings.specs.SettingsLaws.{accepted}
+use Rattle.decoder.specs.declared.Outcome.{Outcome}
+use Rattle.decoder.specs.Decoder.{Result, ended, refused, ruleOf, softAt, codedSoftAt, markAt, codedMarkAt, Ending, ending, final, resultOf, byNumber, roomOf, Decoded}
+use Rattle.decoder.specs.ResultLaws.{DecoderAnswer, decoder-answer}
+use Rattle.print.specs.Bytes.{bytes}
+use Rattle.print.specs.Decimal.{line}
+use Rattle.print.specs.DecimalLaws.{line-length}
+use Rattle.input.specs.Input.{largest}
+use Rattle.input.specs.InputLaws.{Fit}
+use Rattle.output.specs.Report.{lines, outputs, outputsOf, outcomeText}
+use Rattle.output.specs.Working.{held}
+
+-- ---- the lines of the positions, one by one
+
+pub lines-next : (values : ℕ → List ℤ) (n i : ℕ) → i < n → lines values (n - i) i ≡ line (values i) ++ lines values (n - (i + 1)) (i + 1)
+unfolding lines
+lines-next values n i h = let left : n - i ≡ suc (n - suc i) = omega arith in rw (left, add-one i)
+
+pub lines-end : (values : ℕ → List ℤ) (n : ℕ) → lines values (n - n) n ≡ []
+unfolding lines
+lines-end values n = let left : n - n ≡ 0 = omega arith in rw left
+
+-- only the values of the positions count
+pub lines-same : (values values′ : ℕ → List ℤ) (n p : ℕ) → ((i : ℕ) → p ≤ i → i < p + n → values i ≡ values′ i) → lines values n p ≡ lines values′ n p
+unfolding lines
+lines-same values values′ zero p same = refl
+lines-same values values′ (suc n) p same =
+    ap₂ (λ (a b : List ℕ). a ++ b) (ap line (same p (omega arith) (omega arith)))
+    (lines-same values values′ n (suc p) (λ i l h. same i (omega arith) (omega arith)))
+
+-- ---- room
+
+pub lines-room : (values : ℕ → List ℤ) (n p : ℕ) → ((i : ℕ) → p ≤ i → i < p + n → length (line (values i)) ≤ 30) → length (lines values n p) ≤ 30 * n
+unfolding lines
+lines-room values zero p short = omega arith
+lines-room values (suc n) p short =
+    let rest = lines-room values n (suc p) (λ i l h. short i (omega arith) (omega arith)) in
+    omega (arith, rest, short p (omega arith) (omega arith), length-append (line (values p)) (lines values n (suc p)))
+
+pub outputs-short : (s : Settings) (w : List ℤ) (i : ℕ) → s .ceiling ≤ 2047 → i < 1024 → length (line (outputsOf s w i)) ≤ 30
+outputs-short s w i C h =
+    line-length (outputsOf s w i) (omega (
+      arith,
+      add-size (ruleOf s) (L (s .m) w 0 i) (R (s .m) w 0 i),
+      mark-le (softAt s w i),
+      add-size (ruleOf s) (L (s .m) w (s .m) i) (R (s .m) w (s .m) i),
+      mark-le (codedSoftAt s w i),
+    ))
+
+-- ---- what the decoder leaves for an accepted block
+
+pub record DecodedBlock (s : Settings) (mask : List ℕ) (llr work soft : List ℤ) (mark : List ℕ) (codedSoft : List ℤ) (codedMark : List ℕ) (r : Outcome) : Type 0 where
+  pub answer : resultOf r ≡ ended (ending s mask llr work .iteration) (ending s mask llr work .reason)
+  pub iteration-le : ending s mask llr work .iteration ≤ 200
+  pub values : (i : ℕ) → i < 2 ^ s .m → held soft mark codedSoft codedMark i ≡ outputsOf s (final s mask llr work) i
+  pub size : 2 ^ s .m ≤ 1024
+  pub ceiling-le : s .ceiling ≤ 2047
+
+pub decoded-block : {s : Settings} {mask : List ℕ} {llr soft : List ℤ} {mark : List ℕ} {codedSoft : List ℤ} {codedMark : List ℕ} {work soft′ : List ℤ}
+    {mark′ : List ℕ} {codedSoft′ : List ℤ} {codedMark′ : List ℕ} {work′ : List ℤ} {r : Outcome}
+    → Fit s mask llr
+    → Decoded s mask llr soft mark codedSoft codedMark work soft′ mark′ codedSoft′ codedMark′ work′ r
+    → length soft ≡ 1024 → length mark ≡ 1024 → length codedSoft ≡ 1024 → length codedMark ≡ 1024 → length work ≡ 22528
+    → DecodedBlock s mask llr work soft′ mark′ codedSoft′ codedMark′ r
+decoded-block {s} {mask} {llr} {soft} {mark} {codedSoft} {codedMark} {work} fit d soft-long mark-long coded-soft-long coded-mark-long work-long =
+    let number : decodeNumber s mask llr (roomOf soft mark codedSoft codedMark work) ≡ 0 =
+      rw (soft-long, mark-long, coded-soft-long, coded-mark-long, work-long) (fit .number) in
+    let ok = accepted s mask llr largest (fit .number) in
+    let size : 2 ^ s .m ≤ 2 ^ 10 = pow-mono (ok .m-le) in
+    let N = 2 ^ s .m in
+    let w = final s mask llr work in
+    let answer = d .answer ∙ ap (λ (n : ℕ). byNumber n (ending s mask llr work)) number in
+    record {
+      answer = answer;
+      iteration-le = decoder-answer s mask llr largest work .1;
+      values = λ i h. rw (
+        ap (λ (l : List ℤ). getD l i (pos 0)) (d .soft-is ∙ ap (λ (n : ℕ). unlessRefused n (overwrite N (softAt s w) soft) soft) number)
+            ∙ overwrite-at N (softAt s w) soft i (pos 0) h (omega arith),
+        ap (λ (l : List ℕ). getD l i 0) (d .mark-is ∙ ap (λ (n : ℕ). unlessRefused n (overwrite N (markAt s w) mark) mark) number)
+            ∙ overwrite-at N (markAt s w) mark i 0 h (omega arith),
+        ap (λ (l : List ℤ). getD l i (pos 0)) (d .coded-soft-is ∙ ap (λ (n : ℕ). unlessRefused n (overwrite N (codedSoftAt s w) codedSoft) codedSoft) number)
+            ∙ overwrite-at N (codedSoftAt s w) codedSoft i (pos 0) h (omega arith),
+        ap (λ (l : List ℕ). getD l i 0) (d .coded-mark-is ∙ ap (λ (n : ℕ). unlessRefused n (overwrite N (codedMarkAt s w) codedMark) codedMark) number)
+            ∙ overwrite-at N (codedMarkAt s w) codedMark i 0 h (omega arith),
+      );
+      size = size;
+      ceiling-le = ok .ceiling-le;
+    }

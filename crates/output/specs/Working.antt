@@ -1,0 +1,13 @@
+-- What private functions write: the line of given values, and of the values that slices hold. Definitions only.
+use Prim.Native.Nat.{ℕ}
+use mathlib.Core.List.{List, [], _∷_}
+use lib.IntN.{ℤ, pos}
+use lib.ListN.{getD}
+use Rattle.output.specs.Report.{outputs}
+
+abbrev pub row : ℕ → ℤ → ℕ → ℤ → ℕ → List ℤ
+row p soft mark codedSoft codedMark = pos p ∷ soft ∷ pos mark ∷ codedSoft ∷ pos codedMark ∷ []
+
+abbrev pub held : List ℤ → List ℕ → List ℤ → List ℕ → ℕ → List ℤ
+held soft mark codedSoft codedMark =
+    outputs (λ i. getD soft i (pos 0)) (λ i. getD mark i 0) (λ i. getD codedSoft i (pos 0)) (λ i. getD codedMark i 0)

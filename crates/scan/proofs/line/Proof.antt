@@ -1,0 +1,151 @@
+-- `line` meets its contract. The values stored so far, put in front of the line that is still to be read, are the whole line.
+use Prim.Native.Nat.{_+_, _-_, _<_}
+use mathlib.Core.Path.{_≡_, refl, sym, ap, _∙_}
+use mathlib.Core.List.{append-nil}
+use native.Mathlib.Omega.{arith}
+use borrow.Author.Needs.{needs}
+use lib.ListN.{length, drop, take, length-set}
+use lib.Seq.{drop-set-lt}
+use Rattle.scan.specs.Reading.{found}
+use Rattle.scan.specs.Numbers.{number}
+use Rattle.scan.specs.Lines.{separator, line}
+use Rattle.scan.specs.Answers.{valueRead, readTo}
+use Rattle.scan.specs.ScanLaws.{behind, behind-none, behind-stored, line-none, line-no-number, line-no-separator, line-next}
+use Rattle.scan.proofs.Signed.{kept}
+use Rattle.scan.proofs.line.Statement.{statement}
+use Rattle.scan.proofs.line.Tie as tie
+
+abbrev Inv-loop : tie.InvT-loop
+Inv-loop text at count values₀ left₀ i₀ p₀ values left i p =
+    (i + left ≡ count) × (length values ≡ length values₀) × (line count (drop at text) ≡ behind (take i values) (line left (drop p text))) × (drop count values ≡ drop count values₀)
+
+abbrev μ-loop : tie.MeasureT-loop
+μ-loop text at count values₀ left₀ i₀ p₀ values left i p = left
+
+-- the value read, and the text behind it
+read : (c : tie.After-known-told Inv-loop μ-loop) →
+    let k = c .before .before .before .before .before in
+    let t = k .before .before .args .text .now in
+    number (drop (k .loop .p) t) ≡ found (c .before .read .given .0 .0) (drop (c .before .read .given .0 .1 .0) t)
+read c =
+    c .before .before .before .number .ensures
+    ∙ ap (valueRead (c .before .before .before .before .before .before .before .args .text .now)) (c .before .read .given .1)
+
+loop-holds : tie.Need-loop-holds Inv-loop μ-loop
+loop-holds c = let a = c .before .args in (omega arith, refl, sym (behind-none (line (a .count) (drop (a .at) (a .text .now)))), refl)
+
+sub-left : tie.Need-sub-left Inv-loop μ-loop
+sub-left c = omega arith
+
+number-requires : tie.Need-number-requires Inv-loop μ-loop
+number-requires c κs = search needs
+
+enum-known-read : tie.Need-enum-known-read Inv-loop μ-loop
+enum-known-read c = search needs
+
+enum-told : tie.Need-enum-told Inv-loop μ-loop
+enum-told c = search needs
+
+same-length : tie.Need-same-length Inv-loop μ-loop
+same-length c = c .before .before .before .before .loop .inv .1
+
+returns : tie.Need-returns Inv-loop μ-loop
+returns c =
+    let k = c .before .before .before .before in
+    let l = k .loop in
+    let t = k .before .before .args .text .now in
+    let e = c .before .before .number .ensures ∙ ap (valueRead t) (c .enum-told .given .1) in
+    (l .inv .2 ∙ ap (behind (take (l .i) (l .values))) (line-no-number (l .left) (drop (l .p) t) (c .before .before .before .loop-test .taken) e), l .inv .3)
+
+separator-requires : tie.Need-separator-requires Inv-loop μ-loop
+separator-requires c κs = search needs
+
+enum-known-parted : tie.Need-enum-known-parted Inv-loop μ-loop
+enum-known-parted c = search needs
+
+enum-told-2 : tie.Need-enum-told-2 Inv-loop μ-loop
+enum-told-2 c = search needs
+
+same-length-2 : tie.Need-same-length-2 Inv-loop μ-loop
+same-length-2 c = c .before .before .before .before .before .before .before .before .loop .inv .1
+
+returns-2 : tie.Need-returns-2 Inv-loop μ-loop
+returns-2 c =
+    let r = c .before .before .before in
+    let k = r .before .before .before .before .before in
+    let l = k .loop in
+    let t = k .before .before .args .text .now in
+    let v = r .before .read .given .0 in
+    let e = c .before .before .separator .ensures ∙ ap (readTo t tt) (c .enum-told2 .given .1) in (
+      l .inv .2 ∙ ap (behind (take (l .i) (l .values))) (line-no-separator (l .left) (drop (l .p) t) (r .before .before .before .before .loop-test .taken) (v .0) (drop (v .1 .0) t) (read r) e),
+      l .inv .3,
+    )
+
+mul-value : tie.Need-mul-value Inv-loop μ-loop
+mul-value c = let s = c .before .before .before .before .before .before .before .before .before .before .before in omega (arith, s .good, s .pre)
+
+slice-set-from-value : tie.Need-slice-set-from-value Inv-loop μ-loop
+slice-set-from-value c = omega arith
+
+add-i : tie.Need-add-i Inv-loop μ-loop
+add-i c = omega arith
+
+loop-less : tie.Need-loop-less Inv-loop μ-loop
+loop-less c = omega arith
+
+loop-again : tie.Need-loop-again Inv-loop μ-loop
+loop-again c =
+    let r = c .before .before .before .before in
+    let k = r .before .before .before .before .before in
+    let l = k .loop in
+    let a = k .before .before .args in
+    let t = a .text .now in
+    let v = r .before .read .given .0 in
+    let z = v .0 in
+    let w = drop (c .before .parted .given .0 .0) t in
+    let e = c .before .before .before .separator .ensures ∙ ap (readTo t tt) (c .before .parted .given .1) in
+    let h : l .i < length (l .values) = omega arith in
+    rw (kept z (r .known-told .given .0 .1)) (
+      omega arith,
+      length-set (l .values) (l .i) z ∙ l .inv .1,
+      l .inv .2 ∙ ap (behind (take (l .i) (l .values))) (line-next (l .left) (drop (l .p) t) (r .before .before .before .before .loop-test .taken) z (drop (v .1 .0) t) (read r) w e)
+          ∙ behind-stored (l .values) (l .i) z (line (l .left - 1) w) h,
+      drop-set-lt (a .count) (l .values) (l .i) z (omega arith) ∙ l .inv .3,
+    )
+
+same-length-3 : tie.Need-same-length-3 Inv-loop μ-loop
+same-length-3 c = c .before .loop .inv .1
+
+returns-3 : tie.Need-returns-3 Inv-loop μ-loop
+returns-3 c =
+    let l = c .before .loop in
+    let a = c .before .before .before .args in
+    let s = drop (l .p) (a .text .now) in
+    let e : l .i ≡ a .count = omega arith in
+    (l .inv .2 ∙ rw (line-none (l .left) s (c .loop-test .left), append-nil (take (l .i) (l .values)), e), l .inv .3)
+
+pub line-spec : {M : Type 1} → statement M
+line-spec =
+    tie.close
+    (tie.spec
+    Inv-loop
+    μ-loop
+    loop-holds
+    sub-left
+    number-requires
+    enum-known-read
+    enum-told
+    same-length
+    returns
+    separator-requires
+    enum-known-parted
+    enum-told-2
+    same-length-2
+    returns-2
+    mul-value
+    slice-set-from-value
+    add-i
+    loop-less
+    loop-again
+    same-length-3
+    returns-3)

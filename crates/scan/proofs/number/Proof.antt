@@ -1,0 +1,45 @@
+-- `number` meets its contract.
+use mathlib.Core.Path.{sym, _∙_}
+use native.Mathlib.Omega.{arith}
+use borrow.Author.Needs.{needs}
+use borrow.Author.Tests.{eqb-true}
+use lib.ListN.{drop}
+use Rattle.scan.specs.ScanLaws.{inside, number-minus, number-plain}
+use Rattle.scan.proofs.number.Statement.{statement}
+use Rattle.scan.proofs.number.Tie as tie
+
+byte-at-requires : tie.Need-byte-at-requires
+byte-at-requires c κs = search needs
+
+is-minus-requires : tie.Need-is-minus-requires
+is-minus-requires c κs = search needs
+
+add-signed-natural : tie.Need-add-signed-natural
+add-signed-natural c =
+    let k = c .before .before in
+    let a = k .before .before .args in
+    let e = eqb-true (k .byte-at .result) 45 (sym (c .before .is-minus .ensures) ∙ c .if1 .taken) in
+    omega (arith, inside (a .at) (a .text .now) (omega (arith, k .byte-at .ensures)))
+
+signed-natural-requires : tie.Need-signed-natural-requires
+signed-natural-requires c κs = search needs
+
+signed-natural-requires-2 : tie.Need-signed-natural-requires-2
+signed-natural-requires-2 c κs = search needs
+
+returns : tie.Need-returns
+returns c =
+    let k = c .before .before in
+    let a = k .before .before .before .args in
+    number-minus (a .at) (a .text .now) (rw (← k .before .byte-at .ensures, ← k .is-minus .ensures) (c .before .if1 .taken)) ∙ c .signed-natural .ensures
+
+returns-2 : tie.Need-returns-2
+returns-2 c =
+    let k = c .before .before in
+    let a = k .before .before .before .args in
+    number-plain (drop (a .at) (a .text .now)) (rw (← k .before .byte-at .ensures, ← k .is-minus .ensures) (c .before .if1 .left)) ∙ c .signed-natural2 .ensures
+
+pub number-spec : {M : Type 1} → statement M
+number-spec =
+    tie.close
+    (tie.spec byte-at-requires is-minus-requires add-signed-natural signed-natural-requires signed-natural-requires-2 returns returns-2)

@@ -1,0 +1,126 @@
+-- The definitions at chosen texts. Computed facts.
+use Prim.Native.Nat.{ℕ}
+use Prim.Native.Char.{code}
+use Prim.Native.String as S
+use mathlib.Core.Path.{_≡_, refl}
+use mathlib.Core.List.{List, [], _∷_}
+use lib.IntN.{ℤ, pos, negsuc}
+use Rattle.scan.specs.Reading.{Reading, found, malformed}
+use Rattle.scan.specs.Numbers.{digits, natural, number}
+use Rattle.scan.specs.Lines.{spaces, separator, line, literal}
+
+-- the bytes of a quoted text
+abbrev bytes : S.String → List ℕ
+bytes S.[] = []
+bytes (S._∷_ c s) = code c ∷ bytes s
+
+abbrev read : ℕ → S.String → Reading (List ℤ)
+read n s = line n (bytes s)
+
+abbrev values : List ℤ → S.String → Reading (List ℤ)
+values zs s = found zs (bytes s)
+
+-- ---- lines of values that are accepted
+
+one-digit : read 1 "7\n" ≡ values (pos 7 ∷ []) ""
+unfolding line number natural digits separator spaces
+one-digit = refl
+
+leading-zeros : read 2 "007 -0\n" ≡ values (pos 7 ∷ pos 0 ∷ []) ""
+unfolding line number natural digits separator spaces
+leading-zeros = refl
+
+negative : read 1 "-3\n" ≡ values (negsuc 2 ∷ []) ""
+unfolding line number natural digits separator spaces
+negative = refl
+
+six-digits : read 2 "999999 -999999\n" ≡ values (pos 999999 ∷ negsuc 999998 ∷ []) ""
+unfolding line number natural digits separator spaces
+six-digits = refl
+
+several-spaces : read 3 "1  2   3\n" ≡ values (pos 1 ∷ pos 2 ∷ pos 3 ∷ []) ""
+unfolding line number natural digits separator spaces
+several-spaces = refl
+
+-- the text goes on behind byte 10
+next-line : read 2 "1 2\n3 4\n" ≡ values (pos 1 ∷ pos 2 ∷ []) "3 4\n"
+unfolding line number natural digits separator spaces
+next-line = refl
+
+-- ---- lines that are not
+
+seven-digits : read 1 "0000001\n" ≡ malformed
+unfolding line number natural digits separator spaces
+seven-digits = refl
+
+plus : read 1 "+1\n" ≡ malformed
+unfolding line number natural digits separator spaces
+plus = refl
+
+no-digits : read 1 "\n" ≡ malformed
+unfolding line number natural digits separator spaces
+no-digits = refl
+
+minus-alone : read 1 "-\n" ≡ malformed
+unfolding line number natural digits separator spaces
+minus-alone = refl
+
+two-minuses : read 1 "--1\n" ≡ malformed
+unfolding line number natural digits separator spaces
+two-minuses = refl
+
+space-behind-minus : read 1 "- 1\n" ≡ malformed
+unfolding line number natural digits separator spaces
+space-behind-minus = refl
+
+tab : read 2 "1\t2\n" ≡ malformed
+unfolding line number natural digits separator spaces
+tab = refl
+
+leading-space : read 2 " 1 2\n" ≡ malformed
+unfolding line number natural digits separator spaces
+leading-space = refl
+
+trailing-space : read 2 "1 2 \n" ≡ malformed
+unfolding line number natural digits separator spaces
+trailing-space = refl
+
+no-newline : read 2 "1 2" ≡ malformed
+unfolding line number natural digits separator spaces
+no-newline = refl
+
+carriage-return : read 2 "1 2\r\n" ≡ malformed
+unfolding line number natural digits separator spaces
+carriage-return = refl
+
+too-many : read 2 "1 2 3\n" ≡ malformed
+unfolding line number natural digits separator spaces
+too-many = refl
+
+-- a line does not go on behind byte 10
+too-few : read 2 "1\n2\n" ≡ malformed
+unfolding line number natural digits separator spaces
+too-few = refl
+
+empty : read 1 "" ≡ malformed
+unfolding line number natural digits separator spaces
+empty = refl
+
+-- ---- fixed texts
+
+same-name : literal (bytes "m limit\n") (bytes "m limit\n1 10\n") ≡ found tt (bytes "1 10\n")
+unfolding literal
+same-name = refl
+
+other-last-byte : literal (bytes "m limit\n") (bytes "m limit 1 10\n") ≡ malformed
+unfolding literal
+other-last-byte = refl
+
+name-cut : literal (bytes "m limit\n") (bytes "m lim") ≡ malformed
+unfolding literal
+name-cut = refl
+
+-- the end of the text is no byte 0
+byte-zero : literal (0 ∷ []) [] ≡ malformed
+unfolding literal
+byte-zero = refl
