@@ -37,6 +37,10 @@ outcomeText e N values =
 abbrev pub outputsOf : Settings → List ℤ → ℕ → List ℤ
 outputsOf s w = outputs (softAt s w) (markAt s w) (codedSoftAt s w) (codedMarkAt s w)
 
+-- the outcome of a block in a workspace that held `work`
+abbrev pub blockText : Settings → List ℕ → List ℤ → List ℤ → List ℕ
+blockText s mask llr work = outcomeText (ending s mask llr work) (2 ^ s .m) (outputsOf s (final s mask llr work))
+
 -- ---- the report
 
 -- the workspace that it lends the decoder: room for the largest block, all zeros
@@ -45,7 +49,7 @@ workspace = replicate 22528 (pos 0)
 
 abbrev pub textOf : Meaning → List ℕ
 textOf (refused number) = refusalText number
-textOf (block s mask llr) = outcomeText (ending s mask llr workspace) (2 ^ s .m) (outputsOf s (final s mask llr workspace))
+textOf (block s mask llr) = blockText s mask llr workspace
 
 unfoldable pub report : List ℕ → List ℕ
 report text = textOf (meaning text)

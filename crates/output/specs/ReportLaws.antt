@@ -1,12 +1,15 @@
 -- Laws of the output: its lines one by one, that its room suffices, and what the decoder leaves for an accepted block.
 use Prim.Native.Nat.{ℕ, zero, suc, _+_, _-_, _*_, _^_, _≤_, _<_}
-use mathlib.Core.Path.{_≡_, refl, sym, ap, ap₂, _∙_}
+use mathlib.Core.Path.{_≡_, refl, sym, ap, ap₂, _∙_, subst}
+use mathlib.Core.Bool.{Bool, true, false, true≢false}
 use mathlib.Core.List.{List, [], _∷_, _++_}
 use native.Mathlib.Numerals.{add-one}
 use native.Mathlib.Omega.{arith}
+use lib.Dec.{lit≤}
 use lib.IntN.{ℤ, pos, natAbs}
 use lib.ListN.{length, getD, length-append}
 use lib.Pow.{pow-mono}
+use Rattle.calls.specs.declared.Refusal.{Refusal}
 use Rattle.calls.specs.Memory.{overwrite, unlessRefused}
 use Rattle.calls.specs.MemoryLaws.{overwrite-at}
 use Rattle.message.specs.MessageLaws.{add-size}
@@ -16,16 +19,20 @@ use Rattle.settings.specs.declared.Settings.{Settings}
 use Rattle.settings.specs.declared.Room.{Room}
 use Rattle.settings.specs.Settings.{decodeNumber}
 use Rattle.settings.specs.SettingsLaws.{accepted}
+use Rattle.decoder.specs.declared.Reason.{Reason}
+use Rattle.decoder.specs.declared.Reason.the-variants.{Criterion, Limit}
 use Rattle.decoder.specs.declared.Outcome.{Outcome}
-use Rattle.decoder.specs.Decoder.{Result, ended, refused, ruleOf, softAt, codedSoftAt, markAt, codedMarkAt, Ending, ending, final, resultOf, byNumber, roomOf, Decoded}
+use Rattle.decoder.specs.declared.Outcome.the-variants.{Ended, Refused}
+use Rattle.decoder.specs.Decoder.{Result, ended, refused, reasonNumber, ruleOf, softAt, codedSoftAt, markAt, codedMarkAt, Ending, ending, final, resultOf, byNumber, roomOf, Decoded}
 use Rattle.decoder.specs.ResultLaws.{DecoderAnswer, decoder-answer}
 use Rattle.print.specs.Bytes.{bytes}
 use Rattle.print.specs.Decimal.{line}
 use Rattle.print.specs.DecimalLaws.{line-length}
 use Rattle.input.specs.Input.{largest}
 use Rattle.input.specs.InputLaws.{Fit}
-use Rattle.output.specs.Report.{lines, outputs, outputsOf, outcomeText}
-use Rattle.output.specs.Working.{held}
+use Rattle.output.specs.Report.{lines, outputsOf, outcomeText, blockText}
+use Rattle.output.specs.Working.{held, headingText}
+use Rattle.output.specs.Working as working
 
 -- ---- the lines of the positions, one by one
 
@@ -47,6 +54,10 @@ lines-same values values′ (suc n) p same =
 
 -- ---- room
 
+pub reason-le : (r : Reason) → reasonNumber r ≤ 2
+reason-le Criterion = lit≤ tt
+reason-le Limit = lit≤ tt
+
 pub lines-room : (values : ℕ → List ℤ) (n p : ℕ) → ((i : ℕ) → p ≤ i → i < p + n → length (line (values i)) ≤ 30) → length (lines values n p) ≤ 30 * n
 unfolding lines
 lines-room values zero p short = omega arith
@@ -64,7 +75,15 @@ outputs-short s w i C h =
       mark-le (codedSoftAt s w i),
     ))
 
+pub heading-room : (e : Ending) → e .iteration ≤ 9999 → e .reason ≤ 9999 → length (headingText e) ≤ 65
+heading-room e h k =
+    let values = pos (e .iteration) ∷ pos (e .reason) ∷ [] in
+    omega (arith, line-length values (omega arith), length-append (line values) (bytes "position soft mark coded codedmark\n"))
+
 -- ---- what the decoder leaves for an accepted block
+
+pub fit-length : {s : Settings} {mask : List ℕ} {llr : List ℤ} → Fit s mask llr → s .m ≤ 10
+fit-length {s} {mask} {llr} fit = accepted s mask llr largest (fit .number) .m-le
 
 pub record DecodedBlock (s : Settings) (mask : List ℕ) (llr work soft : List ℤ) (mark : List ℕ) (codedSoft : List ℤ) (codedMark : List ℕ) (r : Outcome) : Type 0 where
   pub answer : resultOf r ≡ ended (ending s mask llr work .iteration) (ending s mask llr work .reason)
@@ -81,7 +100,7 @@ pub decoded-block : {s : Settings} {mask : List ℕ} {llr soft : List ℤ} {mark
     → DecodedBlock s mask llr work soft′ mark′ codedSoft′ codedMark′ r
 decoded-block {s} {mask} {llr} {soft} {mark} {codedSoft} {codedMark} {work} fit d soft-long mark-long coded-soft-long coded-mark-long work-long =
     let number : decodeNumber s mask llr (roomOf soft mark codedSoft codedMark work) ≡ 0 =
-      rw (soft-long, mark-long, coded-soft-long, coded-mark-long, work-long) (fit .number) in
+    rw (soft-long, mark-long, coded-soft-long, coded-mark-long, work-long) (fit .number) in
     let ok = accepted s mask llr largest (fit .number) in
     let size : 2 ^ s .m ≤ 2 ^ 10 = pow-mono (ok .m-le) in
     let N = 2 ^ s .m in
@@ -89,7 +108,7 @@ decoded-block {s} {mask} {llr} {soft} {mark} {codedSoft} {codedMark} {work} fit 
     let answer = d .answer ∙ ap (λ (n : ℕ). byNumber n (ending s mask llr work)) number in
     record {
       answer = answer;
-      iteration-le = decoder-answer s mask llr largest work .1;
+      iteration-le = subst DecoderAnswer (ap (λ (n : ℕ). byNumber n (ending s mask llr work)) (fit .number)) (decoder-answer s mask llr largest work) .1;
       values = λ i h. rw (
         ap (λ (l : List ℤ). getD l i (pos 0)) (d .soft-is ∙ ap (λ (n : ℕ). unlessRefused n (overwrite N (softAt s w) soft) soft) number)
             ∙ overwrite-at N (softAt s w) soft i (pos 0) h (omega arith),
@@ -103,3 +122,39 @@ decoded-block {s} {mask} {llr} {soft} {mark} {codedSoft} {codedMark} {work} fit 
       size = size;
       ceiling-le = ok .ceiling-le;
     }
+
+module _ {s : Settings} {mask : List ℕ} {llr work soft : List ℤ} {mark : List ℕ} {codedSoft : List ℤ} {codedMark : List ℕ} {r : Outcome}
+    (b : DecodedBlock s mask llr work soft mark codedSoft codedMark r) where
+  -- it isn't refused
+  pub not-refused : (refusal : Refusal) → r ≡ Refused refusal → ⊥
+  not-refused refusal e = true≢false (ap isRefusal (sym (ap resultOf e) ∙ b .answer))
+    where
+      isRefusal : Result → Bool
+      isRefusal (refused number) = true
+      isRefusal (ended t reason) = false
+
+  -- its ending is the decoder's
+  pub ending-is : (t : ℕ) (reason : Reason) → r ≡ Ended t reason → working.ending t reason ≡ ending s mask llr work
+  ending-is t reason e = ap endingIn (sym (ap resultOf e) ∙ b .answer)
+    where
+      endingIn : Result → Ending
+      endingIn (refused number) = record { iteration = 0; reason = number }
+      endingIn (ended t reason) = record { iteration = t; reason = reason }
+
+  pub iterations-short : (t : ℕ) (reason : Reason) → r ≡ Ended t reason → t ≤ 9999
+  iterations-short t reason e = omega (arith, b .iteration-le, ap (λ (e : Ending). e .iteration) (ending-is t reason e))
+
+  -- its lines have room, and are those of the definition
+  pub block-room : (n : ℕ) → n ≡ 2 ^ s .m → length (lines (held soft mark codedSoft codedMark) n 0) ≤ 30 * n
+  block-room n e =
+      lines-room (held soft mark codedSoft codedMark) n 0
+      (λ i l h. rw (b .values i (omega arith)) (outputs-short s (final s mask llr work) i (b .ceiling-le) (omega (arith, b .size))))
+
+  pub block-text : (n t : ℕ) (reason : Reason) → n ≡ 2 ^ s .m → r ≡ Ended t reason
+      → outcomeText (working.ending t reason) n (held soft mark codedSoft codedMark) ≡ blockText s mask llr work
+  unfolding outcomeText
+  block-text n t reason size e =
+      ap (λ (x : Ending). outcomeText x n (held soft mark codedSoft codedMark)) (ending-is t reason e)
+      ∙ ap (λ (k : ℕ). outcomeText (ending s mask llr work) k (held soft mark codedSoft codedMark)) size
+      ∙ ap (λ (l : List ℕ). headingText (ending s mask llr work) ++ l)
+      (lines-same (held soft mark codedSoft codedMark) (outputsOf s (final s mask llr work)) (2 ^ s .m) 0 (λ i l h. b .values i (omega arith)))

@@ -1,8 +1,12 @@
 -- What private functions write: the line of given values, and of the values that slices hold. Definitions only.
 use Prim.Native.Nat.{ℕ}
-use mathlib.Core.List.{List, [], _∷_}
+use mathlib.Core.List.{List, [], _∷_, _++_}
 use lib.IntN.{ℤ, pos}
 use lib.ListN.{getD}
+use Rattle.decoder.specs.declared.Reason.{Reason}
+use Rattle.decoder.specs.Decoder.{Ending, reasonNumber}
+use Rattle.print.specs.Bytes.{bytes}
+use Rattle.print.specs.Decimal.{line}
 use Rattle.output.specs.Report.{outputs}
 
 abbrev pub row : ℕ → ℤ → ℕ → ℤ → ℕ → List ℤ
@@ -11,3 +15,12 @@ row p soft mark codedSoft codedMark = pos p ∷ soft ∷ pos mark ∷ codedSoft 
 abbrev pub held : List ℤ → List ℕ → List ℤ → List ℕ → ℕ → List ℤ
 held soft mark codedSoft codedMark =
     outputs (λ i. getD soft i (pos 0)) (λ i. getD mark i 0) (λ i. getD codedSoft i (pos 0)) (λ i. getD codedMark i 0)
+
+abbrev pub ending : ℕ → Reason → Ending
+ending iterations reason = record { iteration = iterations; reason = reasonNumber reason }
+
+abbrev pub headingText : Ending → List ℕ
+headingText e =
+    bytes "iterations reason\n"
+    ++ line (pos (e .iteration) ∷ pos (e .reason) ∷ [])
+    ++ bytes "position soft mark coded codedmark\n"

@@ -1,3 +1,19 @@
+-- `refused` meets its contract.
+use mathlib.Core.Path.{_≡_, ap, _∙_, subst}
+use mathlib.Core.List.{[], _∷_}
+use native.Mathlib.Omega.{arith}
+use Prim.Native.Nat.{ℕ, _≤_}
+use lib.IntN.{ℤ, pos}
+use mir.Syntax.{w32}
+use mir.Val.{toZ}
+use Rattle.calls.specs.Numbers.{refusalNumber}
+use Rattle.calls.specs.NumberLaws.{refusal-digits}
+use Rattle.print.specs.Decimal.{line}
+use Rattle.print.specs.DecimalLaws.{line-length}
+use Rattle.print.specs.Wrote.{Wrote}
+use Rattle.print.specs.WroteLaws.{wrote-then, wrote-length}
+use Rattle.output.specs.Report.{refusalText}
+use Rattle.output.proofs.Values.{natural-held}
 use borrow.Author.Needs.{needs}
 use Rattle.output.proofs.refused.Statement.{statement}
 use Rattle.output.proofs.refused.Tie as tie
@@ -7,33 +23,48 @@ use Rattle.calls.proofs.number.Reads as number-reads
 use Rattle.print.proofs.copy.Reads as copy-reads
 use Rattle.print.proofs.line.Reads as line-reads
 
--- src/lib.rt:25:9
+module _ (c : tie.After-number) where
+  abbrev number : ℕ
+  number = refusalNumber (c .before .before .args .refusal)
+
+  small : c .number .result ≤ 99
+  small = rw (c .number .ensures) (refusal-digits (c .before .before .args .refusal))
+
+  held : toZ w32 (c .number .result) ≡ pos number
+  held = natural-held (c .number .result) (omega (arith, small)) ∙ ap pos (c .number .ensures)
+
 number-requires : tie.Need-number-requires
 number-requires c κs = search needs
 
--- src/lib.rt:26:35
 slice-aggregate-copy : tie.Need-slice-aggregate-copy
 slice-aggregate-copy c = search needs
 
--- src/lib.rt:26:9
 copy-requires : tie.Need-copy-requires
 copy-requires c κs = search needs
 
--- src/lib.rt:27:29
 cast-t14 : tie.Need-cast-t14
-cast-t14 c = ?
+cast-t14 c = record { sfits = omega (arith, small (c .before .before .before .before .before .before)) }
 
--- src/lib.rt:27:27
 slice-aggregate-line : tie.Need-slice-aggregate-line
 slice-aggregate-line c = search needs
 
--- src/lib.rt:27:5
 line-requires : tie.Need-line-requires
-line-requires c κs = ?
+line-requires c κs =
+    let n = c .before .before .before .before .before .before .before in
+    let written = c .before .before .before .before .copy .ensures in
+    let names : c .before .before .before .before .copy .result ≡ 8 = written .next-is in
+    rw (held n) (omega (arith, n .before .before .pre, wrote-length written, line-length (pos (number n) ∷ []) (omega (arith, small n))))
 
--- src/lib.rt:22:1
+same-length : tie.Need-same-length
+same-length c = search needs
+
 returns : tie.Need-returns
-returns c = ?
+unfolding refusalText
+returns c =
+    let written = c .before .before .before .before .before .before .before .copy in
+    let line-written = c .before .before .line in
+    wrote-then (written .ensures)
+    (subst (λ (z : ℤ). Wrote (written .last .0) (written .result) (line (z ∷ [])) (line-written .last .0) (line-written .result)) (held (c .before .before .before .before .before .before .before .before .before .before)) (line-written .ensures))
 
 pub refused-spec : {M : Type 1} → statement M
 refused-spec =
@@ -45,4 +76,5 @@ refused-spec =
     cast-t14
     slice-aggregate-line
     line-requires
+    same-length
     returns)

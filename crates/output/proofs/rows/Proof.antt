@@ -1,3 +1,19 @@
+-- `rows` meets its contract.
+use Prim.Native.Nat.{ℕ, _+_, _-_, _≤_}
+use mathlib.Core.Path.{_≡_, sym, ap, _∙_, subst}
+use mathlib.Core.List.{List, _++_}
+use native.Mathlib.Omega.{arith}
+use lib.IntN.{ℤ, pos}
+use lib.ListN.{getD}
+use mir.Syntax.{w16}
+use mir.Val.{toZ, ofZ}
+use mir.Facts.{toZ-ofZ}
+use Rattle.print.specs.Decimal.{line}
+use Rattle.print.specs.Wrote.{Wrote}
+use Rattle.print.specs.WroteLaws.{Writing, writing-starts, writing-next, writing-ends, writing-room, writing-length}
+use Rattle.output.specs.Report.{lines}
+use Rattle.output.specs.ReportLaws.{lines-next, lines-end}
+use Rattle.output.specs.Working.{held, row}
 use Rattle.output.proofs.rows.Statement.{statement}
 use Rattle.output.proofs.rows.Tie as tie
 use Rattle.output.proofs.rows.Reads as reads
@@ -5,62 +21,84 @@ use Rattle.output.proofs.rows.Lts as lts
 use Rattle.output.proofs.row.Reads as row-reads
 
 abbrev Inv-loop : tie.InvT-loop
-Inv-loop out₀ at n soft mark coded-soft coded-mark end₀ i₀ out end i = ?
+Inv-loop out₀ at n soft mark coded-soft coded-mark end₀ i₀ out end i =
+    (i ≤ n)
+    × Writing out₀ at (lines (held soft mark coded-soft coded-mark) n 0) out end (lines (held soft mark coded-soft coded-mark) (n - i) i)
 
 abbrev μ-loop : tie.MeasureT-loop
-μ-loop out₀ at n soft mark coded-soft coded-mark end₀ i₀ out end i = ?
+μ-loop out₀ at n soft mark coded-soft coded-mark end₀ i₀ out end i = n - i
 
--- src/lib.rt:69:5
+module _ (c : tie.After-shared-slice-known4 Inv-loop μ-loop) where
+  abbrev a : tie.Start Inv-loop μ-loop
+  a = c .before .before .before .before .before .before .before .before .before .before
+
+  abbrev at : tie.At-loop Inv-loop μ-loop
+  at = c .before .before .before .before .before .before
+
+  abbrev all : ℕ → List ℤ
+  all = held (a .args .soft .now) (a .args .mark .now) (a .args .coded-soft .now) (a .args .coded-mark .now)
+
+  -- the values of the line as the call is handed them
+  abbrev handed : List ℤ
+  handed =
+      row (at .loop .i) (toZ w16 (ofZ w16 (getD (a .args .soft .now) (at .loop .i) (pos 0)))) (getD (a .args .mark .now) (at .loop .i) 0)
+      (toZ w16 (ofZ w16 (getD (a .args .coded-soft .now) (at .loop .i) (pos 0)))) (getD (a .args .coded-mark .now) (at .loop .i) 0)
+
+  are-held : handed ≡ all (at .loop .i)
+  are-held = rw (
+    toZ-ofZ {w = w16} (record { sfits = c .before .before .before .row-arg2 .given }),
+    toZ-ofZ {w = w16} (record { sfits = c .before .row-arg3 .given }),
+  )
+
+  next : lines all (a .args .n - at .loop .i) (at .loop .i) ≡ line handed ++ lines all (a .args .n - (at .loop .i + 1)) (at .loop .i + 1)
+  next = lines-next all (a .args .n) (at .loop .i) (omega arith) ∙ ap (λ (zs : List ℤ). line zs ++ lines all (a .args .n - (at .loop .i + 1)) (at .loop .i + 1)) (sym are-held)
+
 loop-holds : tie.Need-loop-holds Inv-loop μ-loop
-loop-holds c = ?
+loop-holds c =
+    let a = c .before .before .before .args in
+    let values = held (a .soft .now) (a .mark .now) (a .coded-soft .now) (a .coded-mark .now) in
+    let all : lines values (a .n - 0) 0 ≡ lines values (a .n) 0 = ap (λ (k : ℕ). lines values k 0) (omega arith) in
+    (omega arith, subst (Writing (a .out .now) (a .at) (lines values (a .n) 0) (a .out .now) (a .at)) (sym all) writing-starts)
 
--- src/lib.rt:70:32
 mul-row : tie.Need-mul-row Inv-loop μ-loop
-mul-row c = ?
+mul-row c = omega arith
 
--- src/lib.rt:70:32
 shared-slice-copy-out-row : tie.Need-shared-slice-copy-out-row Inv-loop μ-loop
-shared-slice-copy-out-row c = ?
+shared-slice-copy-out-row c = omega arith
 
--- src/lib.rt:70:41
 shared-slice-read-row : tie.Need-shared-slice-read-row Inv-loop μ-loop
-shared-slice-read-row c = ?
+shared-slice-read-row c = omega arith
 
--- src/lib.rt:70:50
 mul-row-2 : tie.Need-mul-row-2 Inv-loop μ-loop
-mul-row-2 c = ?
+mul-row-2 c = omega arith
 
--- src/lib.rt:70:50
 shared-slice-copy-out-row-2 : tie.Need-shared-slice-copy-out-row-2 Inv-loop μ-loop
-shared-slice-copy-out-row-2 c = ?
+shared-slice-copy-out-row-2 c = omega arith
 
--- src/lib.rt:70:65
 shared-slice-read-row-2 : tie.Need-shared-slice-read-row-2 Inv-loop μ-loop
-shared-slice-read-row-2 c = ?
+shared-slice-read-row-2 c = omega arith
 
--- src/lib.rt:70:9
 row-requires : tie.Need-row-requires Inv-loop μ-loop
-row-requires c κs = ?
+row-requires c κs = (omega arith, writing-room (line (handed c)) _ (at c .loop .inv .1) (next c) (a c .pre .1))
 
--- src/lib.rt:71:9
 add-i : tie.Need-add-i Inv-loop μ-loop
-add-i c = ?
+add-i c = omega arith
 
--- src/lib.rt:69:5
 loop-less : tie.Need-loop-less Inv-loop μ-loop
-loop-less c = ?
+loop-less c = omega arith
 
--- src/lib.rt:69:5
 loop-again : tie.Need-loop-again Inv-loop μ-loop
-loop-again c = ?
+loop-again c = (omega arith, writing-next (at (c .before .before .before) .loop .inv .1) (next (c .before .before .before)) (c .before .before .row .ensures))
 
--- src/lib.rt:54:1
 same-length : tie.Need-same-length Inv-loop μ-loop
-same-length c = ?
+same-length c = writing-length (c .before .loop .inv .1)
 
--- src/lib.rt:54:1
 returns : tie.Need-returns Inv-loop μ-loop
-returns c = ?
+returns c =
+    let a = c .before .before .before .before .before .args in
+    let values = held (a .soft .now) (a .mark .now) (a .coded-soft .now) (a .coded-mark .now) in
+    let all : c .before .loop .i ≡ a .n = omega arith in
+    writing-ends (c .before .loop .inv .1) (ap (λ (k : ℕ). lines values (a .n - k) k) all ∙ lines-end values (a .n))
 
 pub rows-spec : {M : Type 1} → statement M
 rows-spec =
