@@ -1,8 +1,9 @@
 -- What private functions write: the line of given values, and of the values that slices hold. Definitions only.
-use Prim.Native.Nat.{ℕ}
+use Prim.Native.Nat.{ℕ, _≤_}
+use mathlib.Core.Path.{_≡_}
 use mathlib.Core.List.{List, [], _∷_, _++_}
 use lib.IntN.{ℤ, pos}
-use lib.ListN.{getD}
+use lib.ListN.{length, getD, take}
 use Rattle.decoder.specs.declared.Reason.{Reason}
 use Rattle.decoder.specs.Decoder.{Ending, reasonNumber}
 use Rattle.print.specs.Bytes.{bytes}
@@ -24,3 +25,7 @@ headingText e =
     bytes "iterations reason\n"
     ++ line (pos (e .iteration) ∷ pos (e .reason) ∷ [])
     ++ bytes "position soft mark coded codedmark\n"
+
+-- n counts elements at the start of a list. The second part follows from the first; stated, it spares a caller that lends them a proof
+abbrev pub Within : ℕ → List ℕ → Type 0
+Within n l = (n ≤ length l) × (n ≡ length (take n l))

@@ -10,7 +10,7 @@ ghost use Rattle.input.specs.InputLaws.{Fit};
 ghost use Rattle.print.specs.Decimal.{line};
 ghost use Rattle.print.specs.Wrote.{Wrote};
 ghost use Rattle.output.specs.Report.{refusalText, lines, outcomeText, blockText, report};
-ghost use Rattle.output.specs.Working.{held, row, ending, headingText};
+ghost use Rattle.output.specs.Working.{held, row, ending, headingText, Within};
 use calls::Answer;
 use calls::Refusal;
 use decoder::Outcome;
@@ -22,6 +22,7 @@ use settings::Settings;
 fn refused(out: &mut [u8], refusal: Refusal) -> usize
     requires { ⌜ 32768 ≤ length (now out) ⌝ }
     ensures { λ r. ⌜ Wrote (now (out .entry)) 0 (refusalText (refusalNumber refusal)) (now (out .exit)) r ⌝ }
+    ensures { λ r. ⌜ r ≤ 32768 ⌝ }
 {
     let number = calls::number(Answer::Refused(refusal));
     let end = print::copy(out, 0, b"refused\n");
@@ -110,6 +111,7 @@ fn outcome(
     requires { ⌜ (n ≤ 1024) × (n ≤ length (now soft)) × (n ≤ length (now mark)) × (n ≤ length (now «coded_soft»)) × (n ≤ length (now «coded_mark»)) ⌝ }
     requires { ⌜ length (lines (held (now soft) (now mark) (now «coded_soft») (now «coded_mark»)) n 0) ≤ 30 * n ⌝ }
     ensures { λ r. ⌜ Wrote (now (out .entry)) 0 (outcomeText (ending iterations reason) n (held (now (soft .entry)) (now (mark .entry)) (now («coded_soft» .entry)) (now («coded_mark» .entry)))) (now (out .exit)) r ⌝ }
+    ensures { λ r. ⌜ r ≤ 32768 ⌝ }
 {
     let end = heading(out, iterations, reason);
     rows(out, end, n, soft, mark, coded_soft, coded_mark)
@@ -120,6 +122,7 @@ fn decoded(out: &mut [u8], settings: Settings, mask: &[u8], llr: &[i16], work: &
     requires { ⌜ Fit settings (now mask) (now llr) ⌝ }
     requires { ⌜ (length (now work) ≡ 22528) × (32768 ≤ length (now out)) ⌝ }
     ensures { λ r. ⌜ Wrote (now (out .entry)) 0 (blockText settings (now (mask .entry)) (now (llr .entry)) (now (work .entry))) (now (out .exit)) r ⌝ }
+    ensures { λ r. ⌜ r ≤ 32768 ⌝ }
 {
     let mut soft = [0i16; 1024];
     let mut mark = [0u8; 1024];
@@ -153,9 +156,10 @@ fn decoded(out: &mut [u8], settings: Settings, mask: &[u8], llr: &[i16], work: &
     }
 }
 
-// The report of a text.
+// The report of a text: `&out[..report(text, &mut out)]`.
 pub fn report(text: &[u8], out: &mut [u8; 32768]) -> usize
     ensures { λ r. ⌜ Wrote (now (out .entry)) 0 (report (now (text .entry))) (now (out .exit)) r ⌝ }
+    ensures { λ r. ⌜ Within r (now (out .exit)) ⌝ }
 {
     let mut mask = [0u8; 1024];
     let mut llr = [0i16; 1024];

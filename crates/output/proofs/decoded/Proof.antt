@@ -94,8 +94,8 @@ returns-2 c =
     let answer = c .before .before .before .before .before .before .before .before .before .before .answer2 .given in
     let n = c .before .before .before .before .before .before .before .before .power-of-two in
     let written = c .before .before .outcome in
-    subst (λ (text : List ℕ). Wrote (c .before .before .before .before .before .before .before .before .before .before .before .before .before .before .before .before .before .before .before .before .before .before .before .before .before .args .out .now) 0 text (written .last .0) (written .result))
-    (block-text b (n .result) (answer .0 .0) (answer .0 .1 .0) (n .ensures) (answer .1)) (written .ensures)
+    let same = block-text b (n .result) (answer .0 .0) (answer .0 .1 .0) (n .ensures) (answer .1) in
+    (subst (λ (text : List ℕ). Wrote (c .before .before .before .before .before .before .before .before .before .before .before .before .before .before .before .before .before .before .before .before .before .before .before .before .before .args .out .now) 0 text (written .last .0) (written .result)) same (written .ensures .0), written .ensures .1)
 
 pub decoded-spec : {M : Type 1} → statement M
 decoded-spec =

@@ -61,10 +61,12 @@ same-length c = search needs
 returns : tie.Need-returns
 unfolding refusalText
 returns c =
+    let n = c .before .before .before .before .before .before .before .before .before .before in
     let written = c .before .before .before .before .before .before .before .copy in
     let line-written = c .before .before .line in
-    wrote-then (written .ensures)
-    (subst (λ (z : ℤ). Wrote (written .last .0) (written .result) (line (z ∷ [])) (line-written .last .0) (line-written .result)) (held (c .before .before .before .before .before .before .before .before .before .before)) (line-written .ensures))
+    let names : written .result ≡ 8 = written .ensures .next-is in
+    let second = subst (λ (z : ℤ). Wrote (written .last .0) (written .result) (line (z ∷ [])) (line-written .last .0) (line-written .result)) (held n) (line-written .ensures) in
+    (wrote-then (written .ensures) second, omega (arith, second .next-is, line-length (pos (number n) ∷ []) (omega (arith, small n))))
 
 pub refused-spec : {M : Type 1} → statement M
 refused-spec =

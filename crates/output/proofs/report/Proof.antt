@@ -1,11 +1,14 @@
 -- `report` meets its contract.
-use Prim.Native.Nat.{ℕ}
+use Prim.Native.Nat.{ℕ, _≤_}
 use mathlib.Core.Path.{_≡_, refl, sym, ap, _∙_, subst}
 use mathlib.Core.List.{List}
 use native.Mathlib.Omega.{arith}
 use lib.IntN.{pos}
 use lib.ListN.{length, take, length-take, length-replicate}
+use lib.Seq.{length-take-le}
 use Rattle.print.specs.Wrote.{Wrote}
+use Rattle.print.specs.WroteLaws.{wrote-length}
+use Rattle.output.specs.Working.{Within}
 use Rattle.input.specs.Input.{meaning}
 use Rattle.input.specs.ReadLaws.{AcceptedText, accepted-text, refused-text}
 use Rattle.output.specs.Report.{textOf, report}
@@ -19,6 +22,9 @@ use Rattle.input.proofs.read.Reads as read-reads
 use Rattle.output.proofs.decoded.Reads as decoded-reads
 use Rattle.output.proofs.refused.Reads as refused-reads
 use Rattle.polar.proofs.power_of_two.Reads as power-of-two-reads
+
+within : {old new x : List ℕ} {n : ℕ} → Wrote old 0 x new n → n ≤ 32768 → length old ≡ 32768 → Within n new
+within {new = new} {n = n} w h e = let long = wrote-length w in (omega (arith, long), sym (length-take-le n new (omega (arith, long))))
 
 -- the text that was accepted
 text : (c : tie.After-power-of-two) →
@@ -73,15 +79,19 @@ unfolding report
 returns c =
     let t = c .before .before .before .before .before .before .before .before .before .args .text .now in
     let written = c .refused in
-    subst (λ (text : List ℕ). Wrote (c .before .before .before .before .before .before .before .before .before .args .out .now) 0 text (written .last .0) (written .result))
-    (sym (ap textOf (refused-text t (c .before .before .before .before .before .read .ensures) (c .before .before .before .refusal .given .1)))) (written .ensures)
+    let same = sym (ap textOf (refused-text t (c .before .before .before .before .before .read .ensures) (c .before .before .before .refusal .given .1))) in (
+      subst (λ (text : List ℕ). Wrote (c .before .before .before .before .before .before .before .before .before .args .out .now) 0 text (written .last .0) (written .result)) same (written .ensures .0),
+      within (written .ensures .0) (written .ensures .1) (c .before .refused-arg .given .0 .1),
+    )
 
 returns-2 : tie.Need-returns-2
 unfolding report
 returns-2 c =
     let written = c .before .decoded in
-    subst (λ (text : List ℕ). Wrote (c .before .before .before .before .before .before .before .before .before .before .before .before .before .before .args .out .now) 0 text (written .last .0) (written .result))
-    (sym (ap textOf (text (c .before .before .before .before .before .before) .is))) (written .ensures)
+    let same = sym (ap textOf (text (c .before .before .before .before .before .before) .is)) in (
+      subst (λ (text : List ℕ). Wrote (c .before .before .before .before .before .before .before .before .before .before .before .before .before .before .args .out .now) 0 text (written .last .0) (written .result)) same (written .ensures .0),
+      within (written .ensures .0) (written .ensures .1) (c .before .before .before .before .before .decoded-arg .given .0 .1),
+    )
 
 pub report-spec : {M : Type 1} → statement M
 report-spec =
