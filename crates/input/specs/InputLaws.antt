@@ -225,14 +225,11 @@ pub read-refused : {mask : List ℕ} {llr : List ℤ} {means : Meaning} (r : Ref
     → InputRead means mask llr mask llr (Refused r)
 read-refused r e = rw e (record { answer = refl; mask-is = refl; llr-is = refl })
 
-pub sized-low : (s : Settings) (t : List ℕ) → s .m < 1 → sized (found s t) ≡ refused 1
-sized-low s t h = rw (lt-leb 1 (s .m) h)
+pub sized-refused : (s : Settings) (t : List ℕ) → between 1 10 (s .m) ≡ false → sized (found s t) ≡ refused 1
+sized-refused s t e = rw e
 
-pub sized-high : (s : Settings) (t : List ℕ) → 1 ≤ s .m → 10 < s .m → sized (found s t) ≡ refused 1
-sized-high s t l h = rw (le-leb 1 (s .m) l, lt-leb (s .m) 10 h)
-
-pub sized-tested : (s : Settings) (t : List ℕ) → 1 ≤ s .m → s .m ≤ 10 → sized (found s t) ≡ tested s (rows (2 ^ s .m) 0 t)
-sized-tested s t l h = rw (le-leb 1 (s .m) l, le-leb (s .m) 10 h)
+pub sized-tested : (s : Settings) (t : List ℕ) → between 1 10 (s .m) ≡ true → sized (found s t) ≡ tested s (rows (2 ^ s .m) 0 t)
+sized-tested s t e = rw e
 
 -- n elements of a slice were replaced
 replaced : {A : Type 0} (n : ℕ) (old new values : List A) → length values ≡ n → take n new ≡ values → drop n new ≡ drop n old

@@ -4,7 +4,7 @@
 ghost use mathlib.Core.Path.{_≡_};
 ghost use Prim.Native.Nat.{_≤_, _<_, _^_};
 ghost use lib.ListN.{length, drop, take};
-ghost use Rattle.calls.specs.Numbers.{numberOf};
+ghost use Rattle.calls.specs.Numbers.{numberOf, between};
 ghost use Rattle.scan.specs.Answers.{readTo};
 ghost use Rattle.scan.specs.Reading.{found};
 ghost use Rattle.input.specs.Input.{at, unsigned, maskValue, llrValue, settingsOf, head, row, rows, tested, sized, meaning, InputRead};
@@ -179,6 +179,13 @@ fn refusal(text: &[u8], at: usize, settings: Settings) -> Answer
     settings::refusal(settings, &mask[..n], &llr[..n], room)
 }
 
+// 1: m from 1 to 10.
+fn is_block_length(m: u32) -> bool
+    ensures { λ r. ⌜ r ≡ between 1 10 m ⌝ }
+{
+    (1 <= m) & (m <= 10)
+}
+
 // The lines of the positions behind the first three lines. Every test comes before the first write.
 fn read_block(
     text: &[u8],
@@ -190,10 +197,7 @@ fn read_block(
     ensures { λ r. ⌜ InputRead (sized (found settings (drop at (now (text .entry))))) (now (mask .entry)) (now (llr .entry)) (now (mask .exit)) (now (llr .exit)) r ⌝ }
 {
     let m = settings.m;
-    if m < 1 {
-        return Input::Refused(Refusal::BlockLength);
-    }
-    if 10 < m {
+    if !is_block_length(m) {
         return Input::Refused(Refusal::BlockLength);
     }
     match refusal(text, at, settings) {

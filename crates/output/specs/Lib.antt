@@ -1,3 +1,4 @@
 pub mod Report
 pub mod Working
 pub mod ReportLaws
+pub mod Cases

@@ -65,7 +65,7 @@ returns c =
 returns-2 : tie.Need-returns-2
 returns-2 c =
     let s = c .before .before .before .before .before .before .before .before .before .before .before in
-    lines-followed (s .args .settings) _ (block (c .before .before .before .before .before .before)) _ (s .args .text .now) (at-end (c .before)) (c .if1 .taken)
+    lines-followed (s .args .settings) _ (block (c .before .before .before .before .before .before)) (c .before .before .read .given .0 .0) (s .args .text .now) (at-end (c .before)) (c .if1 .taken)
 
 array-share-prefix-mask : tie.Need-array-share-prefix-mask
 array-share-prefix-mask c = omega (arith, c .before .before .before .before .before .mask2 .given, small (c .before .before .before .before .before .before .before .before .before))
