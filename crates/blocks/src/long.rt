@@ -1,7 +1,6 @@
 // Blocks too long to write out: their masks and messages follow a rule, and the longest is shown by its ends and a checksum.
 ghost use Prim.Native.Nat.{_<_};
 use crate::encoding;
-use crate::say;
 use polar::Code;
 
 fn one_in(i: usize, step: usize) -> u8
@@ -49,11 +48,11 @@ pub fn longest_block() {
     let mut message = [0u8; 682];
     fill(&mut message, 5);
     let mut block = [9u8; 1026];
-    say::number(b"encode m=10 mask checksum ", checksum(&mask));
-    say::number(b" message checksum ", checksum(&message));
-    say::answer(polar::encode(Code { m: 10 }, &mask, &message, &mut block));
-    say::number(b" block checksum ", checksum(&block));
-    say::bytes(b" first", &block[0..16]);
-    say::bytes(b" last", &block[1016..]);
-    say::text(b"\n");
+    show::number(b"encode m=10 mask checksum ", checksum(&mask));
+    show::number(b" message checksum ", checksum(&message));
+    show::answer(polar::encode(Code { m: 10 }, &mask, &message, &mut block));
+    show::number(b" block checksum ", checksum(&block));
+    show::bytes(b" first", &block[0..16]);
+    show::bytes(b" last", &block[1016..]);
+    show::text(b"\n");
 }

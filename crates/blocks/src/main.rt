@@ -37,14 +37,14 @@ fn encode_twice(
 
 // One call of it, with m = 3 and every position an information position.
 fn encoded_twice(message: &[u8], block: &mut [u8], again: &mut [u8]) {
-    say::text(b"encode twice");
+    show::text(b"encode twice");
     let mask = [0u8; 8];
     say::code(3, &mask);
-    say::bytes(b" message", message);
-    say::answer(encode_twice(Code { m: 3 }, &mask, message, block, again));
-    say::bytes(b" block", block);
-    say::bytes(b" again", again);
-    say::text(b"\n");
+    show::bytes(b" message", message);
+    show::answer(encode_twice(Code { m: 3 }, &mask, message, block, again));
+    show::bytes(b" block", block);
+    show::bytes(b" again", again);
+    show::text(b"\n");
 }
 
 // The message comes back; then the second slice is one element too short.

@@ -4,12 +4,12 @@ use polar::Code;
 
 // One call of the read-out: what it is handed, its answer, and the message afterwards.
 fn read_out(m: u32, mask: &[u8], bytes: &[u8], message: &mut [u8]) {
-    say::text(b"read_out");
+    show::text(b"read_out");
     say::code(m, mask);
-    say::bytes(b" bytes", bytes);
-    say::answer(polar::read_out(Code { m }, mask, bytes, message));
-    say::bytes(b" message", message);
-    say::text(b"\n");
+    show::bytes(b" bytes", bytes);
+    show::answer(polar::read_out(Code { m }, mask, bytes, message));
+    show::bytes(b" message", message);
+    show::text(b"\n");
 }
 
 pub fn blocks() {

@@ -15,11 +15,11 @@ pub fn decode(
     coded_mark: &mut [u8],
     work: &mut [i16],
 ) {
-    say::text(b"decode ");
-    say::text(name);
+    show::text(b"decode ");
+    show::text(name);
     say::settings(settings);
-    say::bytes(b" mask", mask);
-    say::values(b" llr", llr);
+    show::bytes(b" mask", mask);
+    show::values(b" llr", llr);
     say::outcome(decoder::decode(
         settings,
         mask,
@@ -30,12 +30,12 @@ pub fn decode(
         coded_mark,
         work,
     ));
-    say::values(b" soft", soft);
-    say::bytes(b" mark", mark);
-    say::values(b" coded", coded_soft);
-    say::bytes(b" codedmark", coded_mark);
-    say::values(b" work", work);
-    say::text(b"\n");
+    show::values(b" soft", soft);
+    show::bytes(b" mark", mark);
+    show::values(b" coded", coded_soft);
+    show::bytes(b" codedmark", coded_mark);
+    show::values(b" work", work);
+    show::text(b"\n");
 }
 
 // The same with slices for two positions.

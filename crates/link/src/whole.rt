@@ -120,7 +120,7 @@ fn checksum(values: &[i16]) -> u32 {
     let mut sum = 0;
     let mut i = 0;
     while i < values.len() {
-        sum = folded(sum, say::size(values[i]), is_negative(values[i]));
+        sum = folded(sum, show::size(values[i]), is_negative(values[i]));
         i += 1;
     }
     sum
@@ -142,15 +142,15 @@ fn differences(sent: &[u8; 32], read: &[u8; 33]) -> u32 {
 // The message is coded, and the block is sent and received: the LLRs are written.
 fn send(message: &[u8; 32], llr: &mut [i16]) {
     let mut block = [9u8; 65];
-    say::bytes(b"link m=6 message", message);
-    say::answer(polar::encode(Code { m: 6 }, &MASK, message, &mut block));
-    say::bytes(b" block", &block);
+    show::bytes(b"link m=6 message", message);
+    show::answer(polar::encode(Code { m: 6 }, &MASK, message, &mut block));
+    show::bytes(b" block", &block);
     let mut samples = [0.0f32; 64];
     fill_samples(&block, &mut samples);
-    say::text(b"\nlink gaussian 8 m=6 C=127");
-    say::answer(channel::front(6, 127, Channel::Gaussian(8.0), &samples, llr));
-    say::values(b" llr", llr);
-    say::text(b"\n");
+    show::text(b"\nlink gaussian 8 m=6 C=127");
+    show::answer(channel::front(6, 127, Channel::Gaussian(8.0), &samples, llr));
+    show::values(b" llr", llr);
+    show::text(b"\n");
 }
 
 // What the decoder makes of the LLRs: its answer, the checksums, and its marks.
@@ -159,7 +159,7 @@ fn receive(settings: Settings, llr: &[i16], mark: &mut [u8]) {
     let mut coded_soft = [9i16; 65];
     let mut coded_mark = [9u8; 65];
     let mut work = [9i16; 897];
-    say::text(b"link");
+    show::text(b"link");
     say::settings(settings);
     say::outcome(decoder::decode(
         settings,
@@ -171,9 +171,9 @@ fn receive(settings: Settings, llr: &[i16], mark: &mut [u8]) {
         &mut coded_mark,
         &mut work,
     ));
-    say::number(b" checksums soft ", checksum(&soft));
-    say::number(b" coded ", checksum(&coded_soft));
-    say::number(b" work ", checksum(&work));
+    show::number(b" checksums soft ", checksum(&soft));
+    show::number(b" coded ", checksum(&coded_soft));
+    show::number(b" work ", checksum(&work));
 }
 
 // One limit and criterion on the LLRs, then the read-out beside the message.
@@ -189,11 +189,11 @@ fn end_by(limit: u32, criterion: u32, operand: u32, message: &[u8; 32], llr: &[i
     let mut mark = [9u8; 65];
     receive(settings, llr, &mut mark);
     let mut read = [9u8; 33];
-    say::text(b" read_out");
-    say::answer(polar::read_out(Code { m: 6 }, &MASK, &mark, &mut read));
-    say::bytes(b" message", &read);
-    say::number(b" wrong ", differences(message, &read));
-    say::text(b"\n");
+    show::text(b" read_out");
+    show::answer(polar::read_out(Code { m: 6 }, &MASK, &mark, &mut read));
+    show::bytes(b" message", &read);
+    show::number(b" wrong ", differences(message, &read));
+    show::text(b"\n");
 }
 
 pub fn link() {

@@ -1,4 +1,4 @@
--- `say::size` is safe: a 16-bit number and its negation fit 32 bits, and what is cast to an unsigned number is not negative.
+-- `size` is safe: a 16-bit number and its negation fit 32 bits, and what is cast to an unsigned number is not negative.
 use Prim.Native.Nat.{zero, suc, _<_, _^_}
 use mathlib.Core.Path.{_≡_}
 use mathlib.Core.Bool.{true, false, true≢false}
@@ -11,8 +11,8 @@ use lib.Signed.{mag, ltZ, nonNeg}
 use mir.Syntax.{w16, w32}
 use mir.Val.{Fits, SFits}
 use mir.Facts.{toZ-ofZ}
-use Rattle.link.proofs.say.size.Statement.{statement}
-use Rattle.link.proofs.say.size.Tie as tie
+use Rattle.show.proofs.size.Statement.{statement}
+use Rattle.show.proofs.size.Tie as tie
 
 negated : (z : ℤ) → mag z < 2 ^ 15 → mag (negℤ z) < 2 ^ 31
 negated (pos zero) h = omega arith

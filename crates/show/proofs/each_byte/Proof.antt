@@ -1,10 +1,10 @@
--- `say::each_byte` is safe and ends.
+-- `each_byte` is safe and ends.
 use borrow.Author.Needs.{needs}
 use Prim.Native.Nat.{_≤_, _-_}
 use native.Mathlib.Omega.{arith}
 use lib.ListN.{length}
-use Rattle.blocks.proofs.say.each_byte.Statement.{statement}
-use Rattle.blocks.proofs.say.each_byte.Tie as tie
+use Rattle.show.proofs.each_byte.Statement.{statement}
+use Rattle.show.proofs.each_byte.Tie as tie
 
 abbrev Inv-loop : tie.InvT-loop
 Inv-loop slice i₀ i = i ≤ length slice
