@@ -6,42 +6,15 @@ mod long;
 mod reading;
 mod say;
 
-ghost use mathlib.Core.Path.{_≡_};
-ghost use Prim.Native.Nat.{_^_};
-ghost use lib.ListN.{getD};
-ghost use Rattle.calls.specs.Numbers.{numberOf};
-ghost use Rattle.calls.specs.Memory.{overwrite};
-ghost use Rattle.polar.specs.Code.{encodeBlock};
-ghost use Rattle.blocks.specs.Twice.{AllInformation, twiceNumber};
-use calls::Answer;
 use polar::Code;
 
-// The coder, and the coder again on the block that it wrote. With every position an information position the message comes back.
-fn encode_twice(
-    code: Code,
-    mask: &[u8],
-    message: &[u8],
-    block: &mut [u8],
-    again: &mut [u8],
-) -> Answer
-    ensures number { λ r. ⌜ (AllInformation code (now (mask .entry)) → numberOf r ≡ twiceNumber code (now (mask .entry)) (now (message .entry)) (now (block .entry)) (now (again .entry))) ⌝ }
-    ensures returned { λ r. ⌜ (AllInformation code (now (mask .entry)) → numberOf r ≡ 0 → now (again .exit) ≡ overwrite (2 ^ code .m) (λ i. getD (now (message .entry)) i 0) (now (again .entry))) ⌝ }
-    ensures first { λ r. ⌜ now (block .exit) ≡ encodeBlock code (now (mask .entry)) (now (message .entry)) (now (block .entry)) ⌝ }
-    ensures refused { λ r. ⌜ ((numberOf r ≡ 0 → ⊥) → now (again .exit) ≡ now (again .entry)) ⌝ }
-{
-    match polar::encode(code, mask, message, block) {
-        Answer::Refused(refusal) => Answer::Refused(refusal),
-        Answer::Done => polar::encode(code, mask, block, again),
-    }
-}
-
-// One call of it, with m = 3 and every position an information position.
+// The coder, and the coder again on its block, with m = 3 and every position an information position.
 fn encoded_twice(message: &[u8], block: &mut [u8], again: &mut [u8]) {
     show::text(b"encode twice");
     let mask = [0u8; 8];
     say::code(3, &mask);
     show::bytes(b" message", message);
-    show::answer(encode_twice(Code { m: 3 }, &mask, message, block, again));
+    show::answer(twice::encode_twice(Code { m: 3 }, &mask, message, block, again));
     show::bytes(b" block", block);
     show::bytes(b" again", again);
     show::text(b"\n");

@@ -10,10 +10,10 @@ use Rattle.calls.specs.NumberLaws.{refused-first, refused-keeps}
 use Rattle.calls.specs.Memory.{overwrite}
 use Rattle.polar.specs.declared.Code.{Code}
 use Rattle.polar.specs.Code.{encodeNumber}
-use Rattle.blocks.specs.Twice.{AllInformation, twiceNumber}
-use Rattle.blocks.specs.TwiceLaws.{kept, second-number, second-block}
-use Rattle.blocks.proofs.encode_twice.Statement.{statement}
-use Rattle.blocks.proofs.encode_twice.Tie as tie
+use Rattle.twice.specs.Twice.{AllInformation, twiceNumber}
+use Rattle.twice.specs.TwiceLaws.{kept, second-number, second-block}
+use Rattle.twice.proofs.encode_twice.Statement.{statement}
+use Rattle.twice.proofs.encode_twice.Tie as tie
 
 -- what the function is handed, seen from behind its first call
 module _ (c : tie.After-encode) where

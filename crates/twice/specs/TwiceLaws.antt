@@ -14,7 +14,7 @@ use Rattle.polar.specs.declared.Code.{Code}
 use Rattle.polar.specs.Code.{encodeNumber, encodeBlock, informationCount}
 use Rattle.polar.specs.CodeLaws.{CodeAccepted, MessageAccepted, encode-accepted}
 use Rattle.polar.specs.CoderLaws.{encode-again, encode-twice}
-use Rattle.blocks.specs.Twice.{AllInformation, twiceNumber}
+use Rattle.twice.specs.Twice.{AllInformation, twiceNumber}
 
 -- a call that is refused leaves what it was lent
 pub kept : (number : ℕ) (new old : List ℕ) → (number ≡ 0 → ⊥) → unlessRefused number new old ≡ old
