@@ -1,0 +1,101 @@
+/* The hand-tuned baseline of the benchmark: message passing as document 01 defines it, in block loops that the compiler vectorises, with the
+   distances 1, 2, 4 and 8 as constants. Built with -O3. It tests nothing: the benchmark hands it blocks that the proved decoder accepts. */
+#include <stddef.h>
+#include <stdint.h>
+#include <string.h>
+
+#define ALWAYS static inline __attribute__((always_inline))
+
+ALWAYS int16_t smaller(int16_t a, int16_t b) { return a < b ? a : b; }
+ALWAYS int16_t greater(int16_t a, int16_t b) { return a < b ? b : a; }
+
+/* the sum, cut to the ceiling */
+ALWAYS int16_t add(int16_t a, int16_t b, int16_t top) {
+    return greater(smaller((int16_t)(a + b), top), (int16_t)-top);
+}
+
+/* k sixteenths of the smaller size, with the product of the signs; both sizes are at most 2047 and k at most 16, so the product fits */
+ALWAYS int16_t f(int16_t a, int16_t b, int16_t k) {
+    int16_t size = smaller((int16_t)(a < 0 ? -a : a), (int16_t)(b < 0 ? -b : b));
+    int16_t scaled = (int16_t)((uint16_t)(size * k) >> 4);
+    int16_t sign = (int16_t)((int16_t)(a ^ b) >> 15);
+    return (int16_t)((scaled ^ sign) - sign);
+}
+
+/* one step over the distance d, both sides of each pair */
+ALWAYS void pairs(int16_t *restrict out, const int16_t *restrict x, const int16_t *restrict y, size_t n, size_t d, int16_t top, int16_t k) {
+    for (size_t p = 0; p < n; p += 2 * d) {
+        for (size_t i = 0; i < d; i++) {
+            int16_t xu = x[p + i], xl = x[p + d + i], yu = y[p + i], yl = y[p + d + i];
+            out[p + i] = f(xu, add(xl, yl, top), k);
+            out[p + d + i] = add(f(xu, yu, k), xl, top);
+        }
+    }
+}
+
+static void step(int16_t *out, const int16_t *x, const int16_t *y, size_t n, size_t d, int16_t top, int16_t k) {
+    switch (d) {
+    case 1: pairs(out, x, y, n, 1, top, k); break;
+    case 2: pairs(out, x, y, n, 2, top, k); break;
+    case 4: pairs(out, x, y, n, 4, top, k); break;
+    case 8: pairs(out, x, y, n, 8, top, k); break;
+    default: pairs(out, x, y, n, d, top, k);
+    }
+}
+
+static void iterate(int16_t *work, unsigned m, int16_t top, int16_t k) {
+    size_t n = (size_t)1 << m;
+    int16_t *left = work, *right = work + (m + 1) * n;
+    for (unsigned s = m; s-- > 0;)
+        step(left + s * n, left + (s + 1) * n, right + s * n, n, n >> (s + 1), top, k);
+    for (unsigned s = 0; s < m; s++)
+        step(right + (s + 1) * n, right + s * n, left + (s + 1) * n, n, n >> (s + 1), top, k);
+}
+
+/* the soft values of a column and their marks */
+static void sums(const int16_t *restrict left, const int16_t *restrict right, size_t n, int16_t top, int16_t *restrict soft, uint8_t *restrict mark) {
+    for (size_t i = 0; i < n; i++) {
+        int16_t v = add(left[i], right[i], top);
+        soft[i] = v;
+        mark[i] = (uint8_t)((v < 0) + 2 * (v == 0));
+    }
+}
+
+static void outputs(const int16_t *work, unsigned m, int16_t top, int16_t *soft, uint8_t *mark, int16_t *coded_soft, uint8_t *coded_mark) {
+    size_t n = (size_t)1 << m;
+    sums(work, work + (m + 1) * n, n, top, soft, mark);
+    sums(work + m * n, work + (m + 1) * n + m * n, n, top, coded_soft, coded_mark);
+}
+
+/* criterion 1: no tie, and the marks coded are the coded marks */
+static int g_matrix(unsigned m, const uint8_t *mark, const uint8_t *coded_mark) {
+    size_t n = (size_t)1 << m;
+    uint8_t bits[1024], tie = 0, differ = 0;
+    memcpy(bits, mark, n);
+    for (size_t d = n / 2; d > 0; d /= 2)
+        for (size_t p = 0; p < n; p += 2 * d)
+            for (size_t i = 0; i < d; i++)
+                bits[p + i] ^= bits[p + d + i];
+    for (size_t i = 0; i < n; i++) {
+        tie |= (uint8_t)((mark[i] | coded_mark[i]) & 2);
+        differ |= (uint8_t)(bits[i] ^ coded_mark[i]);
+    }
+    return !tie && !differ;
+}
+
+/* criterion 0 or 1; returns the iteration at which it ends */
+uint32_t baseline_decode(unsigned m, int16_t top, int16_t k, uint32_t limit, uint32_t criterion, const uint8_t *mask, const int16_t *llr, int16_t *soft,
+                         uint8_t *mark, int16_t *coded_soft, uint8_t *coded_mark, int16_t *work) {
+    size_t n = (size_t)1 << m;
+    memset(work, 0, 2 * (m + 1) * n * sizeof *work);
+    memcpy(work + m * n, llr, n * sizeof *llr);
+    for (size_t i = 0; i < n; i++)
+        work[(m + 1) * n + i] = mask[i] ? top : 0;
+    for (uint32_t t = 1;; t++) {
+        iterate(work, m, top, k);
+        if (criterion == 1 || t == limit)
+            outputs(work, m, top, soft, mark, coded_soft, coded_mark);
+        if (t == limit || (criterion == 1 && g_matrix(m, mark, coded_mark)))
+            return t;
+    }
+}

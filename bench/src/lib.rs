@@ -1,0 +1,156 @@
+//! What the benchmark and the curves share: blocks to decode, the proved decoder behind its C interface, and the others.
+pub mod blocks;
+pub mod noise;
+pub mod plain;
+
+use noise::Random;
+
+/// A block to decode, and the settings that every decoder takes.
+pub struct Block {
+    pub m: usize,
+    pub ceiling: i16,
+    pub scale: i16,
+    pub mask: Vec<u8>,
+    pub llr: Vec<i16>,
+}
+
+/// What a decoder leaves.
+pub struct Lent {
+    pub soft: Vec<i16>,
+    pub mark: Vec<u8>,
+    pub coded_soft: Vec<i16>,
+    pub coded_mark: Vec<u8>,
+    pub work: Vec<i16>,
+}
+
+impl Lent {
+    /// Whether an information position is wrong or tied; the message sent is all zero.
+    pub fn is_wrong(&self, block: &Block) -> bool {
+        self.mark
+            .iter()
+            .zip(&block.mask)
+            .any(|(mark, frozen)| *frozen == 0 && *mark != 0)
+    }
+}
+
+extern "C" {
+    fn vedrogne_decode(
+        settings: *const u32,
+        settings_len: usize,
+        mask: *const u8,
+        mask_len: usize,
+        llr: *const i16,
+        llr_len: usize,
+        soft: *mut i16,
+        soft_len: usize,
+        mark: *mut u8,
+        mark_len: usize,
+        coded_soft: *mut i16,
+        coded_soft_len: usize,
+        coded_mark: *mut u8,
+        coded_mark_len: usize,
+        work: *mut i16,
+        work_len: usize,
+        iterations: *mut u32,
+        reason: *mut u32,
+    ) -> u32;
+    fn baseline_decode(
+        m: u32,
+        top: i16,
+        k: i16,
+        limit: u32,
+        criterion: u32,
+        mask: *const u8,
+        llr: *const i16,
+        soft: *mut i16,
+        mark: *mut u8,
+        coded_soft: *mut i16,
+        coded_mark: *mut u8,
+        work: *mut i16,
+    ) -> u32;
+}
+
+pub fn lent(m: usize) -> Lent {
+    let n = 1 << m;
+    Lent {
+        soft: vec![0; n],
+        mark: vec![0; n],
+        coded_soft: vec![0; n],
+        coded_mark: vec![0; n],
+        work: vec![0; 2 * (m + 1) * n],
+    }
+}
+
+/// The proved decoder, with a criterion and its operand; the iteration at which it ends.
+pub fn proved(block: &Block, criterion: (u32, u32), limit: u32, to: &mut Lent) -> u32 {
+    let settings = [
+        block.m as u32,
+        block.ceiling as u32,
+        block.scale as u32,
+        limit,
+        criterion.0,
+        criterion.1,
+    ];
+    let (mut iterations, mut reason) = (0, 0);
+    // SAFETY: every pointer comes with the length of its own vector
+    let refused = unsafe {
+        vedrogne_decode(
+            settings.as_ptr(),
+            settings.len(),
+            block.mask.as_ptr(),
+            block.mask.len(),
+            block.llr.as_ptr(),
+            block.llr.len(),
+            to.soft.as_mut_ptr(),
+            to.soft.len(),
+            to.mark.as_mut_ptr(),
+            to.mark.len(),
+            to.coded_soft.as_mut_ptr(),
+            to.coded_soft.len(),
+            to.coded_mark.as_mut_ptr(),
+            to.coded_mark.len(),
+            to.work.as_mut_ptr(),
+            to.work.len(),
+            &mut iterations,
+            &mut reason,
+        )
+    };
+    assert_eq!(
+        refused, 0,
+        "the proved decoder refuses a block of the benchmark"
+    );
+    iterations
+}
+
+/// The C baseline, under criterion 0 or 1; the iteration at which it ends.
+pub fn baseline(block: &Block, criterion: u32, limit: u32, to: &mut Lent) -> u32 {
+    // SAFETY: every vector has the elements that m asks for
+    unsafe {
+        baseline_decode(
+            block.m as u32,
+            block.ceiling,
+            block.scale,
+            limit,
+            criterion,
+            block.mask.as_ptr(),
+            block.llr.as_ptr(),
+            to.soft.as_mut_ptr(),
+            to.mark.as_mut_ptr(),
+            to.coded_soft.as_mut_ptr(),
+            to.coded_mark.as_mut_ptr(),
+            to.work.as_mut_ptr(),
+        )
+    }
+}
+
+/// A block of rate one half after a Gaussian channel.
+pub fn noisy(m: usize, db: f64, random: &mut Random) -> Block {
+    let ceiling = 2047;
+    Block {
+        m,
+        ceiling,
+        scale: 15,
+        mask: noise::mask(m, 2.0),
+        llr: noise::llrs(1 << m, db, ceiling, random),
+    }
+}

@@ -1,0 +1,127 @@
+//! The proved decoder against others, side by side in one run: each round runs every decoder once, and a figure is the best or the median of all rounds.
+use bench::noise::Random;
+use bench::{baseline, blocks, lent, noisy, plain, proved, Block, Lent};
+use std::time::Instant;
+
+const NAMES: [&str; 4] = [
+    "proved (Rattle)",
+    "plain (Rust)",
+    "block loops (Rust)",
+    "baseline (C -O3)",
+];
+
+fn run(which: usize, block: &Block, limit: u32, to: &mut Lent) {
+    match which {
+        0 => drop(proved(block, (0, 0), limit, to)),
+        1 => plain::decode(block, limit, &mut to.soft, &mut to.work),
+        2 => blocks::decode(block, limit, &mut to.soft, &mut to.work),
+        _ => drop(baseline(block, 0, limit, to)),
+    }
+}
+
+/// Best and median time of one iteration in nanoseconds, for each decoder, over interleaved rounds.
+fn iteration_times(block: &Block, rounds: usize, limit: u32) -> [(f64, f64); 4] {
+    let mut to = lent(block.m);
+    let mut times = vec![Vec::new(); 4];
+    let mut softs: Vec<Vec<i16>> = Vec::new();
+    for round in 0..=rounds {
+        for (which, times) in times.iter_mut().enumerate() {
+            let begin = Instant::now();
+            run(which, block, limit, &mut to);
+            let time = begin.elapsed().as_nanos() as f64 / f64::from(limit);
+            if round == 0 {
+                softs.push(to.soft.clone());
+            } else {
+                times.push(time);
+            }
+        }
+    }
+    assert!(
+        softs.iter().all(|soft| *soft == softs[0]),
+        "the decoders disagree"
+    );
+    let mut figures = [(0.0, 0.0); 4];
+    for (figure, times) in figures.iter_mut().zip(&mut times) {
+        times.sort_by(f64::total_cmp);
+        *figure = (times[0], times[times.len() / 2]);
+    }
+    figures
+}
+
+fn iteration_table(random: &mut Random) {
+    println!("One iteration at m = 10 under criterion 0 (ns; best and median of 60 rounds of 200 iterations; ratio of the best to the baseline's)");
+    let block = noisy(10, 2.5, random);
+    let figures = iteration_times(&block, 60, 200);
+    for (name, (best, median)) in NAMES.iter().zip(figures) {
+        println!(
+            "{name:20} {best:9.0} {median:9.0} {:7.2}",
+            best / figures[3].0
+        );
+    }
+    println!(
+        "proved to baseline {:.2}, plain to proved {:.1}",
+        figures[0].0 / figures[3].0,
+        figures[1].0 / figures[0].0
+    );
+}
+
+fn growth_table(random: &mut Random) {
+    println!(
+        "\nOne iteration by m (ns, best of 30 rounds of 200 iterations): proved, baseline, ratio"
+    );
+    for m in 1..=10 {
+        let block = noisy(m, 2.5, random);
+        let figures = iteration_times(&block, 30, 200);
+        println!(
+            "m = {m:2} {:9.0} {:9.0} {:6.2}",
+            figures[0].0,
+            figures[3].0,
+            figures[0].0 / figures[3].0
+        );
+    }
+}
+
+fn block_table(random: &mut Random) {
+    println!("\n(1024,512) blocks at 2.5 dB under criterion 1, limit 50 (best of 9 rounds of 300 blocks): blocks per second, iterations, frame errors");
+    let blocks: Vec<Block> = (0..300).map(|_| noisy(10, 2.5, random)).collect();
+    let mut to = lent(10);
+    let decoders = [
+        |block: &Block, to: &mut Lent| proved(block, (1, 0), 50, to),
+        |block: &Block, to: &mut Lent| baseline(block, 1, 50, to),
+    ];
+    let mut best = [f64::MAX; 2];
+    let (mut iterations, mut errors) = ([0u32; 2], [0; 2]);
+    for round in 0..9 {
+        for (which, decode) in decoders.iter().enumerate() {
+            let begin = Instant::now();
+            for block in &blocks {
+                let at = decode(block, &mut to);
+                if round == 0 {
+                    iterations[which] += at;
+                    errors[which] += usize::from(to.is_wrong(block));
+                }
+            }
+            best[which] = best[which].min(begin.elapsed().as_secs_f64());
+        }
+    }
+    assert!(
+        iterations[0] == iterations[1] && errors[0] == errors[1],
+        "the decoders disagree"
+    );
+    for (which, name) in [(0, NAMES[0]), (1, NAMES[3])] {
+        let count = blocks.len() as f64;
+        println!(
+            "{name:20} {:8.0} {:6.2} {:5}",
+            count / best[which],
+            f64::from(iterations[which]) / count,
+            errors[which]
+        );
+    }
+}
+
+fn main() {
+    let mut random = Random(2026);
+    iteration_table(&mut random);
+    growth_table(&mut random);
+    block_table(&mut random);
+}

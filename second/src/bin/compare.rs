@@ -1,0 +1,117 @@
+//! Compares the library linked under the C names, and a report program, with
+//! the second library, on random calls.
+//!
+//! ```text
+//! compare SEED COUNT [REPORT]          comparisons 0 to COUNT-1
+//! compare --one SEED INDEX [REPORT]    that comparison alone, its calls printed
+//! compare --loud SEED COUNT [REPORT]   tells each index first, to find a crash
+//! ```
+//!
+//! A seed and a count fix every call. A difference is printed with the whole
+//! call, and the program exits with 1. It is built with the environment
+//! variable VEDROGNE_LIB naming the archive, or with the feature `selftest`.
+
+#[path = "compare/calls.rs"]
+mod calls;
+#[path = "compare/comparing.rs"]
+mod comparing;
+#[path = "compare/damage.rs"]
+mod damage;
+#[path = "compare/floats.rs"]
+mod floats;
+#[cfg(any(archive, feature = "selftest"))]
+#[path = "compare/foreign.rs"]
+mod foreign;
+#[cfg(not(any(archive, feature = "selftest")))]
+#[path = "compare/unlinked.rs"]
+mod foreign;
+#[path = "compare/generate.rs"]
+mod generate;
+#[path = "compare/judge.rs"]
+mod judge;
+#[cfg_attr(not(any(archive, feature = "selftest")), allow(dead_code))]
+#[path = "compare/memory.rs"]
+mod memory;
+#[path = "compare/plan.rs"]
+mod plan;
+#[path = "compare/property.rs"]
+mod property;
+#[path = "compare/rng.rs"]
+mod rng;
+#[path = "compare/runs.rs"]
+mod runs;
+#[cfg(feature = "selftest")]
+#[path = "compare/selftest.rs"]
+mod selftest;
+#[path = "compare/show.rs"]
+mod show;
+#[path = "compare/tallies.rs"]
+mod tallies;
+#[path = "compare/texts.rs"]
+mod texts;
+
+use judge::Judge;
+use std::ops::Range;
+use std::process::ExitCode;
+
+struct Request {
+    one: bool,
+    loud: bool,
+    seed: u64,
+    indices: Range<u64>,
+    report: Option<String>,
+}
+
+fn read_request() -> Option<Request> {
+    let mut words: Vec<String> = std::env::args().skip(1).collect();
+    let one = words.first().is_some_and(|word| word == "--one");
+    let loud = words.first().is_some_and(|word| word == "--loud");
+    if one || loud {
+        words.remove(0);
+    }
+    if !(2..=3).contains(&words.len()) {
+        return None;
+    }
+    let seed = words[0].parse().ok()?;
+    let number: u64 = words[1].parse().ok()?;
+    let indices = if one {
+        number..number.checked_add(1)?
+    } else {
+        0..number
+    };
+    let report = words.get(2).cloned();
+    Some(Request {
+        one,
+        loud,
+        seed,
+        indices,
+        report,
+    })
+}
+
+fn main() -> ExitCode {
+    let Some(request) = read_request() else {
+        eprintln!("usage: compare [--loud] SEED COUNT [REPORT]");
+        eprintln!("       compare --one SEED INDEX [REPORT]");
+        return ExitCode::from(2);
+    };
+    let (seed, report) = (request.seed, request.report.as_deref());
+    println!("seed {seed}, comparisons {:?}", request.indices);
+    let mut judge = Judge::default();
+    judge.show = request.one;
+    for index in request.indices {
+        if request.loud {
+            eprintln!("comparison {index}");
+        }
+        if let Err(difference) = comparing::compare_one(seed, index, report, &mut judge) {
+            let report = report.unwrap_or("");
+            println!("DIFFERENCE in comparison {index} of seed {seed}");
+            println!("again with: compare --one {seed} {index} {report}");
+            println!("{}", difference.0);
+            return ExitCode::from(1);
+        }
+    }
+    judge.print();
+    println!("no difference");
+    ExitCode::SUCCESS
+}

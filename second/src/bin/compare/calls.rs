@@ -1,0 +1,279 @@
+//! The calls of the C interface as data, and how the second library answers.
+
+use crate::memory::{Fenced, Memory};
+use second::{Channel, Ending, Lent, Refusal, Settings, Tally};
+
+#[derive(Clone)]
+pub struct EncodeCall {
+    pub m: u32,
+    pub mask: Fenced<u8>,
+    pub message: Fenced<u8>,
+    pub block: Fenced<u8>,
+}
+
+#[derive(Clone)]
+pub struct ReadOutCall {
+    pub m: u32,
+    pub mask: Fenced<u8>,
+    pub bits: Fenced<u8>,
+    pub message: Fenced<u8>,
+}
+
+#[derive(Clone)]
+pub struct FrontCall {
+    pub m: u32,
+    pub ceiling: u32,
+    pub channel: Channel,
+    pub samples: Fenced<f32>,
+    pub llr: Fenced<i16>,
+}
+
+#[derive(Clone)]
+pub struct DecodeCall {
+    /// Present in a tallied call.
+    pub tally: Option<Fenced<u32>>,
+    pub settings: Fenced<u32>,
+    pub mask: Fenced<u8>,
+    pub llr: Fenced<i16>,
+    pub soft: Fenced<i16>,
+    pub mark: Fenced<u8>,
+    pub coded_soft: Fenced<i16>,
+    pub coded_mark: Fenced<u8>,
+    pub work: Fenced<i16>,
+    pub iterations: Fenced<u32>,
+    pub reason: Fenced<u32>,
+}
+
+/// One argument of a C call, or a slice with its length.
+pub enum Argument {
+    Number(u32),
+    Float(u32),
+    Slice(Memory),
+    Pointer(Memory),
+}
+
+/// A call that both sides can answer.
+pub trait Call: Clone {
+    /// The C name.
+    fn name(&self) -> &'static str;
+    /// The arguments in the order of the C interface.
+    fn arguments(&self) -> Vec<Argument>;
+    /// The answer of the library linked under the C names.
+    fn foreign(&mut self) -> u32;
+    /// The answer of the second library.
+    fn second(&mut self) -> u32;
+
+    /// Every piece of memory that the call can reach.
+    fn memories(&self) -> Vec<Memory> {
+        let memory = |argument| match argument {
+            Argument::Slice(memory) | Argument::Pointer(memory) => Some(memory),
+            _ => None,
+        };
+        self.arguments().into_iter().filter_map(memory).collect()
+    }
+}
+
+/// The number that a C call returns.
+fn number(answer: Result<(), Refusal>) -> u32 {
+    answer.map_or_else(Refusal::number, |()| 0)
+}
+
+impl Call for EncodeCall {
+    fn name(&self) -> &'static str {
+        "vedrogne_encode"
+    }
+
+    fn arguments(&self) -> Vec<Argument> {
+        vec![
+            Argument::Number(self.m),
+            Argument::Slice(self.mask.shown("mask")),
+            Argument::Slice(self.message.shown("message")),
+            Argument::Slice(self.block.shown("block")),
+        ]
+    }
+
+    fn foreign(&mut self) -> u32 {
+        crate::foreign::encode(self)
+    }
+
+    fn second(&mut self) -> u32 {
+        let (mask, message) = (self.mask.slice(), self.message.slice());
+        let block = self.block.slice_mut();
+        number(second::encode(i64::from(self.m), mask, message, block))
+    }
+}
+
+impl Call for ReadOutCall {
+    fn name(&self) -> &'static str {
+        "vedrogne_read_out"
+    }
+
+    fn arguments(&self) -> Vec<Argument> {
+        vec![
+            Argument::Number(self.m),
+            Argument::Slice(self.mask.shown("mask")),
+            Argument::Slice(self.bits.shown("bits")),
+            Argument::Slice(self.message.shown("message")),
+        ]
+    }
+
+    fn foreign(&mut self) -> u32 {
+        crate::foreign::read_out(self)
+    }
+
+    fn second(&mut self) -> u32 {
+        let (mask, bits) = (self.mask.slice(), self.bits.slice());
+        let message = self.message.slice_mut();
+        number(second::read_out(i64::from(self.m), mask, bits, message))
+    }
+}
+
+impl Call for FrontCall {
+    fn name(&self) -> &'static str {
+        match self.channel {
+            Channel::Gaussian(_) => "vedrogne_front_gaussian",
+            Channel::Flipping(_) => "vedrogne_front_flipping",
+            Channel::Erasing => "vedrogne_front_erasing",
+        }
+    }
+
+    fn arguments(&self) -> Vec<Argument> {
+        let mut arguments = vec![Argument::Number(self.m), Argument::Number(self.ceiling)];
+        if let Channel::Gaussian(number) | Channel::Flipping(number) = self.channel {
+            arguments.push(Argument::Float(number.to_bits()));
+        }
+        arguments.push(Argument::Slice(self.samples.shown("samples")));
+        arguments.push(Argument::Slice(self.llr.shown("llr")));
+        arguments
+    }
+
+    fn foreign(&mut self) -> u32 {
+        crate::foreign::front(self)
+    }
+
+    fn second(&mut self) -> u32 {
+        let (m, ceiling) = (i64::from(self.m), i64::from(self.ceiling));
+        let samples = self.samples.slice();
+        let llr = self.llr.slice_mut();
+        number(second::front(m, ceiling, self.channel, samples, llr))
+    }
+}
+
+impl Call for DecodeCall {
+    fn name(&self) -> &'static str {
+        if self.tally.is_some() {
+            "vedrogne_decode_tallied"
+        } else {
+            "vedrogne_decode"
+        }
+    }
+
+    fn arguments(&self) -> Vec<Argument> {
+        let tally = self.tally.as_ref().map(|tally| tally.shown("tally"));
+        let mut arguments: Vec<Argument> = tally.map(Argument::Slice).into_iter().collect();
+        let slices = [
+            self.settings.shown("settings"),
+            self.mask.shown("mask"),
+            self.llr.shown("llr"),
+            self.soft.shown("soft"),
+            self.mark.shown("mark"),
+            self.coded_soft.shown("coded_soft"),
+            self.coded_mark.shown("coded_mark"),
+            self.work.shown("work"),
+        ];
+        arguments.extend(slices.map(Argument::Slice));
+        arguments.push(Argument::Pointer(self.iterations.shown("iterations")));
+        arguments.push(Argument::Pointer(self.reason.shown("reason")));
+        arguments
+    }
+
+    fn foreign(&mut self) -> u32 {
+        crate::foreign::decode(self)
+    }
+
+    /// The rules of the C interface around the second library: six settings
+    /// and five tally numbers are needed before everything else.
+    fn second(&mut self) -> u32 {
+        let Some(settings) = settings_of(self.settings.slice()) else {
+            return Refusal::Slice.number();
+        };
+        let tally = self.tally.as_ref().map(|tally| tally_of(tally.slice()));
+        let answer = match tally {
+            None => self.second_plain(&settings),
+            Some(None) => return Refusal::Slice.number(),
+            Some(Some(tally)) => self.second_tallied(tally, &settings),
+        };
+        match answer {
+            Err(refusal) => refusal.number(),
+            Ok(ending) => {
+                self.iterations.slice_mut()[0] = ending.iterations;
+                self.reason.slice_mut()[0] = ending.reason;
+                0
+            }
+        }
+    }
+}
+
+impl DecodeCall {
+    fn second_plain(&mut self, settings: &Settings) -> Result<Ending, Refusal> {
+        let mut lent = Lent {
+            soft: self.soft.slice_mut(),
+            mark: self.mark.slice_mut(),
+            coded_soft: self.coded_soft.slice_mut(),
+            coded_mark: self.coded_mark.slice_mut(),
+            work: self.work.slice_mut(),
+        };
+        second::decode(settings, self.mask.slice(), self.llr.slice(), &mut lent)
+    }
+
+    fn second_tallied(&mut self, tally: Tally, settings: &Settings) -> Result<Ending, Refusal> {
+        let mut lent = Lent {
+            soft: self.soft.slice_mut(),
+            mark: self.mark.slice_mut(),
+            coded_soft: self.coded_soft.slice_mut(),
+            coded_mark: self.coded_mark.slice_mut(),
+            work: self.work.slice_mut(),
+        };
+        let (mask, llr) = (self.mask.slice(), self.llr.slice());
+        let (tally, answer) = second::decode_tallied(tally, settings, mask, llr, &mut lent);
+        if let Some(memory) = &mut self.tally {
+            memory.slice_mut()[..5].copy_from_slice(&tally_numbers(&tally));
+        }
+        answer
+    }
+}
+
+/// The settings from a slice of at least six numbers.
+fn settings_of(numbers: &[u32]) -> Option<Settings> {
+    let &[m, ceiling, scale, limit, criterion, operand] = numbers.first_chunk::<6>()?;
+    Some(Settings {
+        m: i64::from(m),
+        ceiling: i64::from(ceiling),
+        scale: i64::from(scale),
+        limit: i64::from(limit),
+        criterion: i64::from(criterion),
+        operand: i64::from(operand),
+    })
+}
+
+/// The tally from a slice of at least five numbers.
+pub fn tally_of(numbers: &[u32]) -> Option<Tally> {
+    let &[blocks, reason1, reason2, refusals, iterations] = numbers.first_chunk::<5>()?;
+    Some(Tally {
+        blocks,
+        reason1,
+        reason2,
+        refusals,
+        iterations,
+    })
+}
+
+pub fn tally_numbers(tally: &Tally) -> [u32; 5] {
+    [
+        tally.blocks,
+        tally.reason1,
+        tally.reason2,
+        tally.refusals,
+        tally.iterations,
+    ]
+}

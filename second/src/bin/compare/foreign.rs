@@ -1,0 +1,214 @@
+//! The C boundary: the library under test, called through its C names.
+
+use crate::calls::{DecodeCall, EncodeCall, FrontCall, ReadOutCall};
+use second::Channel;
+
+extern "C" {
+    fn vedrogne_encode(
+        m: u32,
+        mask: *const u8,
+        mask_len: usize,
+        message: *const u8,
+        message_len: usize,
+        block: *mut u8,
+        block_len: usize,
+    ) -> u32;
+
+    fn vedrogne_read_out(
+        m: u32,
+        mask: *const u8,
+        mask_len: usize,
+        bits: *const u8,
+        bits_len: usize,
+        message: *mut u8,
+        message_len: usize,
+    ) -> u32;
+
+    fn vedrogne_front_gaussian(
+        m: u32,
+        ceiling: u32,
+        factor: f32,
+        samples: *const f32,
+        samples_len: usize,
+        llr: *mut i16,
+        llr_len: usize,
+    ) -> u32;
+
+    fn vedrogne_front_flipping(
+        m: u32,
+        ceiling: u32,
+        weight: f32,
+        samples: *const f32,
+        samples_len: usize,
+        llr: *mut i16,
+        llr_len: usize,
+    ) -> u32;
+
+    fn vedrogne_front_erasing(
+        m: u32,
+        ceiling: u32,
+        samples: *const f32,
+        samples_len: usize,
+        llr: *mut i16,
+        llr_len: usize,
+    ) -> u32;
+
+    fn vedrogne_decode(
+        settings: *const u32,
+        settings_len: usize,
+        mask: *const u8,
+        mask_len: usize,
+        llr: *const i16,
+        llr_len: usize,
+        soft: *mut i16,
+        soft_len: usize,
+        mark: *mut u8,
+        mark_len: usize,
+        coded_soft: *mut i16,
+        coded_soft_len: usize,
+        coded_mark: *mut u8,
+        coded_mark_len: usize,
+        work: *mut i16,
+        work_len: usize,
+        iterations: *mut u32,
+        reason: *mut u32,
+    ) -> u32;
+
+    fn vedrogne_decode_tallied(
+        tally: *mut u32,
+        tally_len: usize,
+        settings: *const u32,
+        settings_len: usize,
+        mask: *const u8,
+        mask_len: usize,
+        llr: *const i16,
+        llr_len: usize,
+        soft: *mut i16,
+        soft_len: usize,
+        mark: *mut u8,
+        mark_len: usize,
+        coded_soft: *mut i16,
+        coded_soft_len: usize,
+        coded_mark: *mut u8,
+        coded_mark_len: usize,
+        work: *mut i16,
+        work_len: usize,
+        iterations: *mut u32,
+        reason: *mut u32,
+    ) -> u32;
+}
+
+pub fn encode(call: &mut EncodeCall) -> u32 {
+    // Safety: each pointer reaches as many elements as the length beside it.
+    unsafe {
+        vedrogne_encode(
+            call.m,
+            call.mask.pointer(),
+            call.mask.len(),
+            call.message.pointer(),
+            call.message.len(),
+            call.block.pointer(),
+            call.block.len(),
+        )
+    }
+}
+
+pub fn read_out(call: &mut ReadOutCall) -> u32 {
+    // Safety: as in `encode`.
+    unsafe {
+        vedrogne_read_out(
+            call.m,
+            call.mask.pointer(),
+            call.mask.len(),
+            call.bits.pointer(),
+            call.bits.len(),
+            call.message.pointer(),
+            call.message.len(),
+        )
+    }
+}
+
+pub fn front(call: &mut FrontCall) -> u32 {
+    let (m, ceiling) = (call.m, call.ceiling);
+    let (samples, samples_len) = (call.samples.pointer(), call.samples.len());
+    let (llr, llr_len) = (call.llr.pointer(), call.llr.len());
+    // Safety: as in `encode`.
+    unsafe {
+        match call.channel {
+            Channel::Gaussian(factor) => {
+                vedrogne_front_gaussian(m, ceiling, factor, samples, samples_len, llr, llr_len)
+            }
+            Channel::Flipping(weight) => {
+                vedrogne_front_flipping(m, ceiling, weight, samples, samples_len, llr, llr_len)
+            }
+            Channel::Erasing => {
+                vedrogne_front_erasing(m, ceiling, samples, samples_len, llr, llr_len)
+            }
+        }
+    }
+}
+
+pub fn decode(call: &mut DecodeCall) -> u32 {
+    match call
+        .tally
+        .as_mut()
+        .map(|tally| (tally.pointer(), tally.len()))
+    {
+        None => decode_plain(call),
+        Some((tally, tally_len)) => decode_tallied(tally, tally_len, call),
+    }
+}
+
+fn decode_plain(call: &mut DecodeCall) -> u32 {
+    // Safety: as in `encode`; iterations and reason point to one element.
+    unsafe {
+        vedrogne_decode(
+            call.settings.pointer(),
+            call.settings.len(),
+            call.mask.pointer(),
+            call.mask.len(),
+            call.llr.pointer(),
+            call.llr.len(),
+            call.soft.pointer(),
+            call.soft.len(),
+            call.mark.pointer(),
+            call.mark.len(),
+            call.coded_soft.pointer(),
+            call.coded_soft.len(),
+            call.coded_mark.pointer(),
+            call.coded_mark.len(),
+            call.work.pointer(),
+            call.work.len(),
+            call.iterations.pointer(),
+            call.reason.pointer(),
+        )
+    }
+}
+
+fn decode_tallied(tally: *mut u32, tally_len: usize, call: &mut DecodeCall) -> u32 {
+    // Safety: as in `decode_plain`; the tally is the call's own.
+    unsafe {
+        vedrogne_decode_tallied(
+            tally,
+            tally_len,
+            call.settings.pointer(),
+            call.settings.len(),
+            call.mask.pointer(),
+            call.mask.len(),
+            call.llr.pointer(),
+            call.llr.len(),
+            call.soft.pointer(),
+            call.soft.len(),
+            call.mark.pointer(),
+            call.mark.len(),
+            call.coded_soft.pointer(),
+            call.coded_soft.len(),
+            call.coded_mark.pointer(),
+            call.coded_mark.len(),
+            call.work.pointer(),
+            call.work.len(),
+            call.iterations.pointer(),
+            call.reason.pointer(),
+        )
+    }
+}

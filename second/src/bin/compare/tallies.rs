@@ -1,0 +1,84 @@
+//! Tallies: right ones, ones at the bounds of refusal 15, and wild ones.
+
+use crate::memory::Fenced;
+use crate::rng::Rng;
+
+/// A right tally of the given number of endings and refusals, with iterations
+/// at a bound or between.
+fn right(rng: &mut Rng, endings: i64, refusals: i64) -> [i64; 5] {
+    let reason1 = rng.between(0, endings);
+    let iterations = match rng.below(3) {
+        0 => endings,
+        1 => 200 * endings,
+        _ => rng.between(endings, 200 * endings),
+    };
+    let blocks = endings + refusals;
+    [blocks, reason1, endings - reason1, refusals, iterations]
+}
+
+/// A right tally of small, middling or nearly full size.
+fn any_right(rng: &mut Rng) -> [i64; 5] {
+    let blocks = match rng.below(4) {
+        0 => rng.between(0, 3),
+        1 => rng.between(999_990, 999_999),
+        2 => 999_999,
+        _ => rng.between(0, 999_999),
+    };
+    let endings = match rng.below(4) {
+        0 => 0,
+        1 => blocks,
+        _ => rng.between(0, blocks),
+    };
+    right(rng, endings, blocks - endings)
+}
+
+/// One step over a bound, mostly.
+fn at_a_bound(rng: &mut Rng) -> [i64; 5] {
+    let mut tally = any_right(rng);
+    let endings = tally[1] + tally[2];
+    match rng.below(6) {
+        0 => {
+            let over = 1_000_000 + rng.below(2) as i64;
+            let endings = rng.pick(&[0, 1, 500_000, over]);
+            tally = right(rng, endings, over - endings);
+        }
+        1 => tally[0] += rng.pick(&[-1, 1]),
+        2 => tally[4] = endings - 1,
+        3 => tally[4] = 200 * endings + 1,
+        4 => tally[rng.below(4)] += rng.pick(&[-1, 1]),
+        _ => tally[rng.below(5)] = rng.between(0xffff_fff0, 0xffff_ffff),
+    }
+    tally
+}
+
+/// Fields that only fit when sums are cut to 32 bits.
+fn wrapping(rng: &mut Rng) -> [i64; 5] {
+    let mut tally = any_right(rng);
+    let shift = rng.between(1, 0xffff_ffff);
+    let fields = rng.pick(&[(1, 2), (1, 3), (2, 3)]);
+    tally[fields.0] += shift;
+    tally[fields.1] += 0x1_0000_0000 - shift;
+    if rng.chance(30) {
+        tally[4] = rng.between(0xffff_ff00, 0xffff_ffff);
+    }
+    tally
+}
+
+/// A tally for one call, with the length of its slice.
+pub fn draw_tally(rng: &mut Rng) -> Fenced<u32> {
+    let numbers = match rng.below(10) {
+        0 => [0; 5],
+        1..=4 => any_right(rng),
+        5 | 6 => at_a_bound(rng),
+        7 => wrapping(rng),
+        8 => [0; 5].map(|_| rng.between(0xffff_ff00, 0xffff_ffff)),
+        _ => [0; 5].map(|_| rng.between(0, 0xffff_ffff)),
+    };
+    let numbers = numbers.map(|v| v as u32);
+    let len = match rng.below(20) {
+        0 => rng.below(5),
+        1..=4 => 5 + rng.below(5),
+        _ => 5,
+    };
+    Fenced::new(rng, &numbers, len)
+}

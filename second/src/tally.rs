@@ -1,0 +1,60 @@
+//! The tally: a value that each tallied call hands back.
+
+use crate::decode::{decode, Ending, Lent, Settings};
+use crate::refusal::Refusal;
+
+/// The five counts.
+#[derive(Clone, Copy, Debug, Default, PartialEq, Eq)]
+pub struct Tally {
+    pub blocks: u32,
+    pub reason1: u32,
+    pub reason2: u32,
+    pub refusals: u32,
+    pub iterations: u32,
+}
+
+impl Tally {
+    /// Whether a call may be counted; where not, the call is refused with 15.
+    pub fn may_count(&self) -> bool {
+        let blocks = u64::from(self.blocks);
+        let endings = u64::from(self.reason1) + u64::from(self.reason2);
+        let iterations = u64::from(self.iterations);
+        blocks < 1_000_000
+            && blocks == endings + u64::from(self.refusals)
+            && iterations >= endings
+            && iterations <= 200 * endings
+    }
+
+    /// The tally with the answer of one more call counted.
+    pub fn counting(mut self, answer: &Result<Ending, Refusal>) -> Self {
+        self.blocks += 1;
+        match answer {
+            Err(_) => self.refusals += 1,
+            Ok(ending) => {
+                self.iterations += ending.iterations;
+                if ending.reason == 1 {
+                    self.reason1 += 1;
+                } else {
+                    self.reason2 += 1;
+                }
+            }
+        }
+        self
+    }
+}
+
+/// The decoder with a tally. Refusal 15 is tested before everything and hands
+/// the tally back unchanged.
+pub fn decode_tallied(
+    tally: Tally,
+    settings: &Settings,
+    mask: &[u8],
+    llr: &[i16],
+    lent: &mut Lent,
+) -> (Tally, Result<Ending, Refusal>) {
+    if !tally.may_count() {
+        return (tally, Err(Refusal::Tally));
+    }
+    let answer = decode(settings, mask, llr, lent);
+    (tally.counting(&answer), answer)
+}
