@@ -12,7 +12,7 @@ ghost use Rattle.sweeps.specs.Iteration.{iterations};
 ghost use Rattle.sweeps.specs.IterationLaws.{Ready};
 ghost use Rattle.criteria.specs.Marks.{markOf};
 ghost use Rattle.criteria.specs.Working.{SoftValues, MarkBytes};
-ghost use Rattle.decoder.specs.Decoder.{ruleOf, softAt, markAt, codedSoftAt, codedMarkAt, criterionOf, Decoded};
+ghost use Rattle.decoder.specs.Decoder.{reasonNumber, ruleOf, softAt, markAt, codedSoftAt, codedMarkAt, criterionOf, Decoded};
 ghost use Rattle.decoder.specs.Working.{rowSum, rowMark, Advanced, Judged, Stepped, Ran, Limited};
 use calls::Answer;
 use calls::Refusal;
@@ -32,6 +32,16 @@ pub enum Reason {
 pub enum Outcome {
     Ended(u32, Reason),
     Refused(Refusal),
+}
+
+// The number of a reason, for callers that print it or hand it to C.
+pub fn reason_number(reason: Reason) -> u32
+    ensures { λ r. ⌜ r ≡ reasonNumber reason ⌝ }
+{
+    match reason {
+        Reason::Criterion => 1,
+        Reason::Limit => 2,
+    }
 }
 
 // The settings of the message arithmetic.

@@ -1,22 +1,14 @@
 // What only this program prints: the decoder's answer and its settings.
 use calls::Answer;
 use decoder::Outcome;
-use decoder::Reason;
 use settings::Settings;
-
-fn reason(reason: Reason) -> u32 {
-    match reason {
-        Reason::Criterion => 1,
-        Reason::Limit => 2,
-    }
-}
 
 // The decoder's answer: the iteration and the reason, or the number of its refusal.
 pub fn outcome(outcome: Outcome) {
     match outcome {
         Outcome::Ended(iterations, why) => {
             show::number(b" answer ", iterations);
-            show::number(b" ", reason(why));
+            show::number(b" ", decoder::reason_number(why));
         }
         Outcome::Refused(refusal) => {
             show::number(b" answer refused ", calls::number(Answer::Refused(refusal)));

@@ -5,7 +5,6 @@ ghost use mathlib.Core.Path.{_≡_};
 ghost use Prim.Native.Nat.{_+_, _*_, _≤_, _^_};
 ghost use lib.ListN.{length};
 ghost use Rattle.calls.specs.Numbers.{refusalNumber};
-ghost use Rattle.decoder.specs.Decoder.{reasonNumber};
 ghost use Rattle.input.specs.InputLaws.{Fit};
 ghost use Rattle.print.specs.Decimal.{line};
 ghost use Rattle.print.specs.Wrote.{Wrote};
@@ -75,23 +74,13 @@ fn rows(
     end
 }
 
-// The number of a reason.
-fn reason_number(reason: Reason) -> u32
-    ensures { λ r. ⌜ r ≡ reasonNumber reason ⌝ }
-{
-    match reason {
-        Reason::Criterion => 1,
-        Reason::Limit => 2,
-    }
-}
-
 // The first three lines of an outcome.
 fn heading(out: &mut [u8], iterations: u32, reason: Reason) -> usize
     requires { ⌜ (iterations ≤ 9999) × (100 ≤ length (now out)) ⌝ }
     ensures { λ r. ⌜ Wrote (now (out .entry)) 0 (headingText (ending iterations reason)) (now (out .exit)) r ⌝ }
 {
     let end = print::copy(out, 0, b"iterations reason\n");
-    let values = [iterations as i32, reason_number(reason) as i32];
+    let values = [iterations as i32, decoder::reason_number(reason) as i32];
     let end = print::line(out, end, &values);
     print::copy(out, end, b"position soft mark coded codedmark\n")
 }

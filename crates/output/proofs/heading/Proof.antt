@@ -20,7 +20,7 @@ use Rattle.output.proofs.heading.Statement.{statement}
 use Rattle.output.proofs.heading.Tie as tie
 use Rattle.output.proofs.heading.Reads as reads
 use Rattle.output.proofs.heading.Lts as lts
-use Rattle.output.proofs.reason_number.Reads as reason-number-reads
+use Rattle.decoder.proofs.reason_number.Reads as reason-number-reads
 use Rattle.print.proofs.copy.Reads as copy-reads
 use Rattle.print.proofs.line.Reads as line-reads
 

@@ -1,11 +1,11 @@
 -- `reason_number` meets its contract.
 use mathlib.Core.Path.{sym, ap}
 use borrow.Author.Needs.{needs}
 use Rattle.decoder.specs.Decoder.{reasonNumber}
-use Rattle.output.proofs.reason_number.Statement.{statement}
-use Rattle.output.proofs.reason_number.Tie as tie
-use Rattle.output.proofs.reason_number.Reads as reads
-use Rattle.output.proofs.reason_number.Lts as lts
+use Rattle.decoder.proofs.reason_number.Statement.{statement}
+use Rattle.decoder.proofs.reason_number.Tie as tie
+use Rattle.decoder.proofs.reason_number.Reads as reads
+use Rattle.decoder.proofs.reason_number.Lts as lts
 
 enum-told : tie.Need-enum-told
 enum-told c = search needs

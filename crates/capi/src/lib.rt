@@ -1,0 +1,206 @@
+// The C interface: coder, read-out, front and decoder for callers in other languages, as include/vedrogne.h declares them.
+// It sees the promises of `calls`, `polar`, `channel`, `settings`, `decoder` and `tally`. It promises that each function returns its call's number, 0 or a
+// refusal's, and leaves in every lent slice what the call's definition says; after a refusal nothing has changed, save a tally that counts it.
+// A slice is a pointer and a length in elements, two parameters in C. No function requires anything of the values handed in.
+ghost use mathlib.Core.Path.{_≡_};
+ghost use Prim.Native.Nat.{_≤_};
+ghost use lib.ListN.{length};
+ghost use Rattle.polar.specs.Code.{encodeNumber, encodeBlock, readOutNumber, readOutMessage};
+ghost use Rattle.channel.specs.Front.{frontNumber, frontLlrs};
+ghost use Rattle.decoder.specs.Decoder.{resultOf};
+ghost use Rattle.capi.specs.Capi.{codeIn, settingsIn, tallyIn, tallyOut, settingsListNumber, resultNumber, iterationsOut, reasonOut, DecodeCall, TalliedCall};
+use calls::Answer;
+use channel::Channel;
+use decoder::Outcome;
+use polar::Code;
+use settings::Settings;
+use tally::Tally;
+
+// How many elements of a list of settings and of a tally are read, and the number that refuses a shorter list.
+const SETTINGS_LENGTH: usize = 6;
+
+const TALLY_LENGTH: usize = 5;
+
+const SHORT_LIST: u32 = 7;
+
+// The one place where a list becomes settings.
+fn settings_in(settings: &[u32]) -> Settings
+    requires { ⌜ 6 ≤ length (now settings) ⌝ }
+    ensures { λ r. ⌜ r ≡ settingsIn (now (settings .entry)) ⌝ }
+{
+    Settings {
+        m: settings[0],
+        ceiling: settings[1],
+        scale: settings[2],
+        limit: settings[3],
+        criterion: settings[4],
+        operand: settings[5],
+    }
+}
+
+fn tally_in(tally: &[u32]) -> Tally
+    requires { ⌜ 5 ≤ length (now tally) ⌝ }
+    ensures { λ r. ⌜ r ≡ tallyIn (now (tally .entry)) ⌝ }
+{
+    Tally {
+        blocks: tally[0],
+        by_criterion: tally[1],
+        by_limit: tally[2],
+        refusals: tally[3],
+        iterations: tally[4],
+    }
+}
+
+fn tally_out(counts: Tally, tally: &mut [u32])
+    requires { ⌜ 5 ≤ length (now tally) ⌝ }
+    ensures { λ _. ⌜ now (tally .exit) ≡ tallyOut counts (now (tally .entry)) ⌝ }
+{
+    tally[0] = counts.blocks;
+    tally[1] = counts.by_criterion;
+    tally[2] = counts.by_limit;
+    tally[3] = counts.refusals;
+    tally[4] = counts.iterations;
+}
+
+// The number to return; iteration and reason are written only where the decoder ended.
+fn result_out(outcome: Outcome, iterations: &mut u32, reason: &mut u32) -> u32
+    ensures { λ r. ⌜ r ≡ resultNumber (resultOf outcome) ⌝ }
+    ensures { λ _. ⌜ now (iterations .exit) ≡ iterationsOut (resultOf outcome) (now (iterations .entry)) ⌝ }
+    ensures { λ _. ⌜ now (reason .exit) ≡ reasonOut (resultOf outcome) (now (reason .entry)) ⌝ }
+{
+    match outcome {
+        Outcome::Refused(refusal) => calls::number(Answer::Refused(refusal)),
+        Outcome::Ended(iteration, why) => {
+            *iterations = iteration;
+            *reason = decoder::reason_number(why);
+            0
+        }
+    }
+}
+
+#[no_mangle]
+pub extern "C" fn vedrogne_decode(
+    settings: &[u32],
+    mask: &[u8],
+    llr: &[i16],
+    soft: &mut [i16],
+    mark: &mut [u8],
+    coded_soft: &mut [i16],
+    coded_mark: &mut [u8],
+    work: &mut [i16],
+    iterations: &mut u32,
+    reason: &mut u32,
+) -> u32
+    ensures { λ r. ⌜ DecodeCall (settingsListNumber (now (settings .entry))) (now (settings .entry)) (now (mask .entry)) (now (llr .entry)) (now (soft .entry)) (now (mark .entry)) (now («coded_soft» .entry)) (now («coded_mark» .entry)) (now (work .entry)) (now (iterations .entry)) (now (reason .entry)) (now (soft .exit)) (now (mark .exit)) (now («coded_soft» .exit)) (now («coded_mark» .exit)) (now (work .exit)) (now (iterations .exit)) (now (reason .exit)) r ⌝ }
+{
+    if settings.len() < SETTINGS_LENGTH {
+        return SHORT_LIST;
+    }
+    let outcome = decoder::decode(
+        settings_in(settings),
+        mask,
+        llr,
+        soft,
+        mark,
+        coded_soft,
+        coded_mark,
+        work,
+    );
+    result_out(outcome, iterations, reason)
+}
+
+// The tally's list is written back after every call of the decoder; where 15 refuses it, its numbers are those that it held.
+#[no_mangle]
+pub extern "C" fn vedrogne_decode_tallied(
+    tally: &mut [u32],
+    settings: &[u32],
+    mask: &[u8],
+    llr: &[i16],
+    soft: &mut [i16],
+    mark: &mut [u8],
+    coded_soft: &mut [i16],
+    coded_mark: &mut [u8],
+    work: &mut [i16],
+    iterations: &mut u32,
+    reason: &mut u32,
+) -> u32
+    ensures { λ r. ⌜ TalliedCall (now (tally .entry)) (now (settings .entry)) (now (mask .entry)) (now (llr .entry)) (now (soft .entry)) (now (mark .entry)) (now («coded_soft» .entry)) (now («coded_mark» .entry)) (now (work .entry)) (now (iterations .entry)) (now (reason .entry)) (now (tally .exit)) (now (soft .exit)) (now (mark .exit)) (now («coded_soft» .exit)) (now («coded_mark» .exit)) (now (work .exit)) (now (iterations .exit)) (now (reason .exit)) r ⌝ }
+{
+    if tally.len() < TALLY_LENGTH {
+        return SHORT_LIST;
+    }
+    if settings.len() < SETTINGS_LENGTH {
+        return SHORT_LIST;
+    }
+    let tallied = tally_in(tally).decode(
+        settings_in(settings),
+        mask,
+        llr,
+        soft,
+        mark,
+        coded_soft,
+        coded_mark,
+        work,
+    );
+    let counts = tallied.tally;
+    let outcome = tallied.outcome;
+    tally_out(counts, tally);
+    result_out(outcome, iterations, reason)
+}
+
+#[no_mangle]
+pub extern "C" fn vedrogne_encode(m: u32, mask: &[u8], message: &[u8], block: &mut [u8]) -> u32
+    ensures { λ r. ⌜ r ≡ encodeNumber (codeIn m) (now (mask .entry)) (now (message .entry)) (length (now (block .entry))) ⌝ }
+    ensures { λ _. ⌜ now (block .exit) ≡ encodeBlock (codeIn m) (now (mask .entry)) (now (message .entry)) (now (block .entry)) ⌝ }
+{
+    calls::number(polar::encode(Code { m: m }, mask, message, block))
+}
+
+#[no_mangle]
+pub extern "C" fn vedrogne_read_out(m: u32, mask: &[u8], bits: &[u8], message: &mut [u8]) -> u32
+    ensures { λ r. ⌜ r ≡ readOutNumber (codeIn m) (now (mask .entry)) (now (bits .entry)) (length (now (message .entry))) ⌝ }
+    ensures { λ _. ⌜ now (message .exit) ≡ readOutMessage (codeIn m) (now (mask .entry)) (now (bits .entry)) (now (message .entry)) ⌝ }
+{
+    calls::number(polar::read_out(Code { m: m }, mask, bits, message))
+}
+
+#[no_mangle]
+pub extern "C" fn vedrogne_front_gaussian(
+    m: u32,
+    ceiling: u32,
+    factor: f32,
+    samples: &[f32],
+    llr: &mut [i16],
+) -> u32
+    ensures { λ r. ⌜ r ≡ frontNumber m ceiling (Channel.Gaussian factor) (now (samples .entry)) (length (now (llr .entry))) ⌝ }
+    ensures { λ _. ⌜ now (llr .exit) ≡ frontLlrs m ceiling (Channel.Gaussian factor) (now (samples .entry)) (now (llr .entry)) ⌝ }
+{
+    calls::number(channel::front(m, ceiling, Channel::Gaussian(factor), samples, llr))
+}
+
+#[no_mangle]
+pub extern "C" fn vedrogne_front_flipping(
+    m: u32,
+    ceiling: u32,
+    weight: f32,
+    samples: &[f32],
+    llr: &mut [i16],
+) -> u32
+    ensures { λ r. ⌜ r ≡ frontNumber m ceiling (Channel.Flipping weight) (now (samples .entry)) (length (now (llr .entry))) ⌝ }
+    ensures { λ _. ⌜ now (llr .exit) ≡ frontLlrs m ceiling (Channel.Flipping weight) (now (samples .entry)) (now (llr .entry)) ⌝ }
+{
+    calls::number(channel::front(m, ceiling, Channel::Flipping(weight), samples, llr))
+}
+
+#[no_mangle]
+pub extern "C" fn vedrogne_front_erasing(
+    m: u32,
+    ceiling: u32,
+    samples: &[f32],
+    llr: &mut [i16],
+) -> u32
+    ensures { λ r. ⌜ r ≡ frontNumber m ceiling Channel.Erasing (now (samples .entry)) (length (now (llr .entry))) ⌝ }
+    ensures { λ _. ⌜ now (llr .exit) ≡ frontLlrs m ceiling Channel.Erasing (now (samples .entry)) (now (llr .entry)) ⌝ }
+{
+    calls::number(channel::front(m, ceiling, Channel::Erasing, samples, llr))
+}

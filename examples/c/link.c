@@ -1,0 +1,102 @@
+/*
+ * A message the whole way: coded, sent over a noisy channel, decoded and read out. examples/c/run builds and runs it.
+ */
+#include <stdio.h>
+#include <string.h>
+
+#include "vedrogne.h"
+
+enum { M = 6, N = 64, K = 32, CEILING = 127 };
+
+/* A (64,32) code: 1 frozen, 0 information. */
+static const uint8_t mask[N] = {
+    1, 1, 1, 1, 1, 1, 1, 0, 1, 1, 1, 0, 1, 0, 0, 0,
+    1, 1, 1, 0, 1, 0, 0, 0, 1, 0, 1, 0, 1, 0, 0, 0,
+    1, 1, 1, 0, 1, 0, 1, 0, 1, 1, 1, 0, 1, 0, 0, 0,
+    1, 1, 1, 0, 1, 0, 0, 0, 1, 0, 0, 0, 0, 0, 0, 0
+};
+
+/* m, ceiling, scale, limit, criterion, operand */
+static const uint32_t settings[6] = { M, CEILING, 15, 50, 1, 0 };
+
+/* The next of a fixed run of numbers, from 0 to 65535. */
+static int32_t next_number(uint32_t *state)
+{
+    *state = *state * 1664525u + 1013904223u;
+    return (int32_t)(*state >> 16);
+}
+
+/*
+ * What the receiver hears: 1 for a coded 0, -1 for a coded 1, and noise. The noise is a sum of six numbers from -1/2 to 1/2, so its standard
+ * deviation is about 0.71. All of it is counted in whole 65536ths, so that the samples are the same on every machine.
+ */
+static void channel(const uint8_t *block, float *samples)
+{
+    uint32_t state = 1;
+    for (int i = 0; i < N; i++) {
+        int32_t sum = block[i] == 0 ? 65536 : -65536;
+        for (int term = 0; term < 6; term++) {
+            sum += next_number(&state) - 32768;
+        }
+        samples[i] = (float)sum / 65536.0f;
+    }
+}
+
+static int wrong_signs(const uint8_t *block, const int16_t *llr)
+{
+    int count = 0;
+    for (int i = 0; i < N; i++) {
+        count += block[i] == 0 ? llr[i] < 0 : llr[i] > 0;
+    }
+    return count;
+}
+
+static void print_bits(const char *name, const uint8_t *bits)
+{
+    printf("%s ", name);
+    for (int i = 0; i < K; i++) {
+        printf("%d", bits[i]);
+    }
+    printf("\n");
+}
+
+/* 1 where a call was refused, after saying so. */
+static int refused(const char *call, uint32_t number)
+{
+    if (number != 0) {
+        printf("%s refused %u\n", call, (unsigned)number);
+    }
+    return number != 0;
+}
+
+int main(void)
+{
+    static uint8_t message[K], block[N], mark[N], coded_mark[N], received[K];
+    static float samples[N];
+    static int16_t llr[N], soft[N], coded_soft[N], work[2 * (M + 1) * N];
+    uint32_t iterations = 0, reason = 0, state = 7;
+
+    for (int i = 0; i < K; i++) {
+        message[i] = (uint8_t)(next_number(&state) % 2);
+    }
+    print_bits("message ", message);
+    if (refused("encode", vedrogne_encode(M, mask, N, message, K, block, N))) {
+        return 1;
+    }
+    channel(block, samples);
+    if (refused("front", vedrogne_front_gaussian(M, CEILING, 8.0f, samples, N, llr, N))) {
+        return 1;
+    }
+    printf("%d of %d LLRs have the wrong sign\n", wrong_signs(block, llr), N);
+    if (refused("decode", vedrogne_decode(settings, 6, mask, N, llr, N, soft, N, mark, N, coded_soft, N, coded_mark, N,
+                                          work, sizeof work / sizeof work[0], &iterations, &reason))) {
+        return 1;
+    }
+    if (refused("read_out", vedrogne_read_out(M, mask, N, mark, N, received, K))) {
+        return 1;
+    }
+    print_bits("received", received);
+    printf("iterations %u reason %u\n", (unsigned)iterations, (unsigned)reason);
+    printf(memcmp(message, received, K) == 0 ? "the message came back\n" : "the message did not come back\n");
+    return 0;
+}

@@ -1,0 +1,151 @@
+/*
+ * Vedrogne: polar coder, channel front and belief-propagation decoder.
+ *
+ * Link with the archive that `rt staticlib capi` writes, target/staticlib/libcapi.a. It is for Linux on x86-64 and needs the C library alone.
+ * No function allocates memory, keeps a state between calls, or fails to return; different threads may call them at the same time.
+ *
+ * A block has N = 2^m positions, m from 1 to 10. The mask has a byte for each: 1 frozen, 0 information. K is the number of its information
+ * positions. Message bits fill these in rising order. The code's matrix is the m-th power of rows (1,0) and (1,1), without bit reversal. A mask
+ * from a usual construction has to be bit-reversed for this decoder.
+ *
+ * Lists are pointers with a length in elements, which may be longer than needed: what is behind is neither read nor written. (A message byte or a
+ * sample there refuses nothing.) The caller sees to it that
+ *   - every pointer is aligned for its type, is not NULL, not even with a length of 0, and points to as many elements as its length says;
+ *   - each of these elements has been given some value, also where a function only writes it: clear or set such memory once, before its first use;
+ *   - what a function may write overlaps with nothing else that the same call is handed, and no other thread uses it meanwhile.
+ * Nothing else is required: every value of every number, float and byte is answered.
+ *
+ * Every function returns 0, or the number of a refusal. After a refusal no memory has changed, save a tally that counts the refusal.
+ * Where several numbers apply the lowest is returned, save where a place is named.
+ *
+ *    number  refused because                                                          returned by
+ *     1      m is outside 1..10                                                       all
+ *     2      the ceiling C is outside 1..2047                                         front, decode
+ *     3      the scale k is outside 1..16                                             decode
+ *     4      the limit T is outside 1..200                                            decode
+ *     5      the criterion is outside 0..3                                            decode
+ *     6      the operand is outside its criterion's range                             decode
+ *     7      a list is shorter than needed. A message list shorter than K             all
+ *            is tested after 9; the list of settings and the tally before everything
+ *     8      a mask value in the first N is neither 0 nor 1                           encode, read_out, decode
+ *     9      the mask has no information position                                     encode, read_out, decode
+ *    10      a log-likelihood ratio (LLR) in the first N has a size above C           decode
+ *    11      the factor or the weight is not finite or not above zero                 front_gaussian, front_flipping
+ *    12      a sample in the first N is not finite                                    front
+ *    13      a message byte in the first K is above 1                                 encode
+ *    14      a malformed report input                                                 none of these functions
+ *    15      the tally can't be counted on: blocks at or above 1,000,000; or          decode_tallied
+ *            blocks not the sum of endings and refusals; or iterations below the
+ *            endings or above 200 times them. Tested before 1 to 10
+ */
+#ifndef VEDROGNE_H
+#define VEDROGNE_H
+
+#include <stddef.h>
+#include <stdint.h>
+
+#ifdef __cplusplus
+extern "C" {
+#endif
+
+/*
+ * Codes a message: block[0..N-1] become the coded bits, a byte of 0 or 1 each.
+ * Needed: N elements of mask and block, K of message. Numbers: 1, 7, 8, 9, 7 for the message, 13.
+ */
+uint32_t vedrogne_encode(
+    uint32_t m,
+    const uint8_t *mask, size_t mask_len,
+    const uint8_t *message, size_t message_len,
+    uint8_t *block, size_t block_len);
+
+/*
+ * Copies the bytes at the information positions of bits[0..N-1], in rising order, to message[0..K-1]. The bytes are copied whatever they are: handed the
+ * marks of the decoder, it gives the decoded message, with a 2 for each tie.
+ * Needed: N elements of mask and bits, K of message. Numbers: 1, 7, 8, 9, 7 for the message.
+ */
+uint32_t vedrogne_read_out(
+    uint32_t m,
+    const uint8_t *mask, size_t mask_len,
+    const uint8_t *bits, size_t bits_len,
+    uint8_t *message, size_t message_len);
+
+/*
+ * The front: samples[0..N-1] become the log-likelihood ratios llr[0..N-1], whole numbers from -ceiling to ceiling. A positive one speaks for 0.
+ *   gaussian   the product of sample and factor, a 32-bit float rounded once, to the nearest, ties to even
+ *   flipping   the weight with the sample's sign; 0 for a sample of either zero
+ *   erasing    the ceiling with the sample's sign; 0 for a sample of either zero
+ * A value of size at least the ceiling becomes the ceiling with its sign, any other the nearest whole number, halves away from zero.
+ * Needed: N elements of samples and llr. Numbers: 1, 2, 7, 11, 12; vedrogne_front_erasing has no 11.
+ */
+uint32_t vedrogne_front_gaussian(
+    uint32_t m, uint32_t ceiling, float factor,
+    const float *samples, size_t samples_len,
+    int16_t *llr, size_t llr_len);
+
+uint32_t vedrogne_front_flipping(
+    uint32_t m, uint32_t ceiling, float weight,
+    const float *samples, size_t samples_len,
+    int16_t *llr, size_t llr_len);
+
+uint32_t vedrogne_front_erasing(
+    uint32_t m, uint32_t ceiling,
+    const float *samples, size_t samples_len,
+    int16_t *llr, size_t llr_len);
+
+/*
+ * Decodes llr[0..N-1].
+ *
+ * settings has six elements: m, ceiling, scale, limit, criterion, operand. Fewer are refused with 7, before every other test.
+ *   ceiling    C, 1 to 2047: every message of the decoder lies from -C to C
+ *   scale      k, 1 to 16: a message is k/16 of the min-sum value, cut down to a whole number
+ *   limit      T, 1 to 200: the most iterations
+ *   criterion  what is tried after each iteration, and its operand
+ *              0   nothing; operand 0
+ *              1   no ties, and the marks coded are the coded marks; operand 0
+ *              2   every soft output has at least the operand's size; operand 1 to C
+ *              3   the marks at the information positions stayed the same at each of the last W iterations; operand W, 1 to 8
+ *
+ * Written where the call returns 0, else unchanged:
+ *   soft, coded_soft    [0..N-1]: how sure each position and each coded bit is; positive for 0, negative for 1
+ *   mark, coded_mark    [0..N-1]: their bits, 0 or 1, or 2 for a tie (a soft output of 0)
+ *   work                the decoder's messages as they stand at the end; its contents before don't matter
+ *   *iterations         the iteration at which the decoder ended, 1 to T
+ *   *reason             1: the criterion held; 2: the limit was reached without it
+ *
+ * Needed: N elements of mask, llr, soft, mark, coded_soft and coded_mark, 2 (m + 1) N of work. Numbers: 7 for settings, then 1 to 10.
+ */
+uint32_t vedrogne_decode(
+    const uint32_t *settings, size_t settings_len,
+    const uint8_t *mask, size_t mask_len,
+    const int16_t *llr, size_t llr_len,
+    int16_t *soft, size_t soft_len,
+    uint8_t *mark, size_t mark_len,
+    int16_t *coded_soft, size_t coded_soft_len,
+    uint8_t *coded_mark, size_t coded_mark_len,
+    int16_t *work, size_t work_len,
+    uint32_t *iterations,
+    uint32_t *reason);
+
+/*
+ * Decodes as vedrogne_decode does, and counts the answer in tally[0..4]: blocks, endings by reason 1, endings by reason 2, refusals, iterations. A tally
+ * starts with five zeros. Refusals 1 to 10 are counted, as a block with no iterations. A tally of fewer than five elements is refused with 7, then
+ * a list of settings of fewer than six; then comes 15. Of these three none is counted, and the tally stays as it was.
+ */
+uint32_t vedrogne_decode_tallied(
+    uint32_t *tally, size_t tally_len,
+    const uint32_t *settings, size_t settings_len,
+    const uint8_t *mask, size_t mask_len,
+    const int16_t *llr, size_t llr_len,
+    int16_t *soft, size_t soft_len,
+    uint8_t *mark, size_t mark_len,
+    int16_t *coded_soft, size_t coded_soft_len,
+    uint8_t *coded_mark, size_t coded_mark_len,
+    int16_t *work, size_t work_len,
+    uint32_t *iterations,
+    uint32_t *reason);
+
+#ifdef __cplusplus
+}
+#endif
+
+#endif
