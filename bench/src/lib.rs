@@ -151,6 +151,6 @@ pub fn noisy(m: usize, db: f64, random: &mut Random) -> Block {
         ceiling,
         scale: 15,
         mask: noise::mask(m, 2.0),
-        llr: noise::llrs(1 << m, db, ceiling, random),
+        llr: noise::llrs(1 << m, db, 16.0, ceiling, random),
     }
 }

@@ -66,14 +66,14 @@ pub fn mask(m: usize, design_db: f64) -> Vec<u8> {
     mask
 }
 
-/// LLRs at a ratio Eb/N0, for a code of rate one half, times 16.
-pub fn llrs(n: usize, db: f64, ceiling: i16, random: &mut Random) -> Vec<i16> {
+/// LLRs at a ratio Eb/N0, for a code of rate one half: the exact ones, 2/σ² times the sample, times `times`, as whole numbers.
+pub fn llrs(n: usize, db: f64, times: f64, ceiling: i16, random: &mut Random) -> Vec<i16> {
     let variance = 10f64.powf(-db / 10.0);
     let top = f64::from(ceiling);
     (0..n)
         .map(|_| {
             let sample = 1.0 + variance.sqrt() * random.normal();
-            (16.0 * 2.0 / variance * sample).round().clamp(-top, top) as i16
+            (times * 2.0 / variance * sample).round().clamp(-top, top) as i16
         })
         .collect()
 }

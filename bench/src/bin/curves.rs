@@ -20,7 +20,7 @@ fn point(db: f64, most: u32, mask: &[u8], random: &mut Random) -> (u32, [Count; 
     });
     let mut blocks = 0;
     while blocks < most && counts[1].errors < 100 {
-        let llr = noise::llrs(1024, db, 2047, random);
+        let llr = noise::llrs(1024, db, 16.0, 2047, random);
         let block = Block {
             m: 10,
             ceiling: 2047,
