@@ -1,43 +1,47 @@
--- One turn of a step's loop: the first p messages of row k are new, and the rows that are read are as they were.
-use Prim.Native.Nat.{ℕ, zero, suc, _+_, _-_, _*_, _^_, _≤_, _<_}
-use mathlib.Core.Path.{_≡_, refl, sym, ap, ap₂, _∙_, subst}
-use mathlib.Core.Bool.{Bool, true, false, cond}
+-- A step in progress: the first p messages of row k are new, and the rows that are read are as they were.
+use Prim.Native.Nat.{ℕ, suc, _+_, _-_, _*_, _^_, _≤_, _<_}
+use mathlib.Core.Path.{_≡_, refl, sym, ap, ap₂, _∙_}
 use mathlib.Core.List.{List}
-use native.Mathlib.Nat.{zero-mul, one-mul, suc-mul, mul-le-mul-right, le-refl}
+use native.Mathlib.Nat.{zero-mul, one-mul, suc-mul, mul-le-mul-right, le-refl, lt-of-lt-of-le}
 use native.Mathlib.Decide.{decLt}
 use native.Mathlib.Numerals.{add-one}
 use native.Mathlib.Omega.{arith}
+use lib.Arith.{digits-lt}
 use lib.Bits.{bitAnd}
-use lib.Dec.{eqb}
 use lib.IntN.{ℤ, pos, natAbs}
-use lib.ListN.{length, getD, set}
+use lib.ListN.{length, set}
 use lib.Pow.{pow-pos, pow-lt, pow-mono}
 use borrow.Author.Tests.{eq-eqb, ne-eqb}
 use Rattle.calls.specs.Memory.{overwriteFrom}
-use Rattle.calls.specs.MemoryLaws.{length-overwriteFrom, overwriteFrom-none, overwriteFrom-store}
-use Rattle.polar.specs.Columns.{digit, bySide}
+use Rattle.calls.specs.MemoryLaws.{length-overwriteFrom, overwriteFrom-none, overwriteFrom-before, overwriteFrom-behind, overwriteFrom-store}
 use Rattle.polar.specs.DigitLaws.{digit-cases, masked, weight-le, partner-lt}
 use Rattle.message.specs.declared.MinSum.{MinSum}
 use Rattle.message.specs.Message.{add, f}
 use Rattle.sweeps.specs.Workspace.{row, setRow, workspaceLength}
-use Rattle.sweeps.specs.WorkspaceLaws.{row-lt, part-above, part-below}
-use Rattle.sweeps.specs.IterationLaws.{Ready, ready-row, joined-size}
-use Rattle.sweeps.specs.Working.{messageAt, newAt, Readable, joinedAt, rowStep, Rows}
+use Rattle.sweeps.specs.WorkspaceLaws.{row-lt, overwriteFrom-more}
+use Rattle.sweeps.specs.IterationLaws.{Ready, ready-written, joined-size}
+use Rattle.sweeps.specs.Working.{messageAt, newAt, Readable, joinedAt, rowPart, rowStep, Rows}
 
--- a row that is not written
-row-apart : (m k j n i : ℕ) (g : ℕ → ℤ) (w : List ℤ) → (k ≡ j → ⊥) → n ≤ 2 ^ m → i < 2 ^ m → row m (overwriteFrom (k * 2 ^ m) n g w) j i ≡ row m w j i
-row-apart m k j n i g w ne hn hi = go (decLt j k)
+-- elements of row k are written, and row j is another one
+pub row-apart : (m k j a n i : ℕ) (g : ℕ → ℤ) (w : List ℤ) → (k ≡ j → ⊥) → k * 2 ^ m ≤ a → a + n ≤ k * 2 ^ m + 2 ^ m → i < 2 ^ m
+    → row m (overwriteFrom a n g w) j i ≡ row m w j i
+row-apart m k j a n i g w ne low high hi = go (decLt j k)
   where
-    go : Dec (j < k) → row m (overwriteFrom (k * 2 ^ m) n g w) j i ≡ row m w j i
-    go (yes l) = part-above m k n g w hn j i l hi
-    go (no l) = part-below m k n g w hn j i (omega (arith, ne))
+    go : Dec (j < k) → row m (overwriteFrom a n g w) j i ≡ row m w j i
+    go (yes l) = overwriteFrom-before a n g w (j * 2 ^ m + i) (pos 0) (lt-of-lt-of-le (digits-lt l hi) low)
+    go (no l) =
+        let behind : suc k ≤ j = omega (arith, ne) in
+        overwriteFrom-behind a n g w (j * 2 ^ m + i) (pos 0) (omega (arith, suc-mul k (2 ^ m), mul-le-mul-right (2 ^ m) behind))
 
--- the formula reads its two columns within the block
-joined-same : (rule : MinSum) (m t p : ℕ) (x x′ y y′ : ℕ → ℤ) → t < m → p < 2 ^ m → ((i : ℕ) → i < 2 ^ m → x i ≡ x′ i)
-    → ((i : ℕ) → i < 2 ^ m → y i ≡ y′ i) → joinedAt rule t x y p ≡ joinedAt rule t x′ y′ p
-joined-same rule m t p x x′ y y′ ht hp ex ey =
+-- the formula reads rows x and y within the block, so it gives the same while row k is written
+pub joined-kept : (rule : MinSum) {m t k x y : ℕ} (old w : List ℤ) → Rows m t k x y
+    → ((j i : ℕ) → (k ≡ j → ⊥) → i < 2 ^ m → row m w j i ≡ row m old j i) → (p : ℕ) → p < 2 ^ m
+    → joinedAt rule t (row m w x) (row m w y) p ≡ joinedAt rule t (row m old x) (row m old y) p
+joined-kept rule {m} {t} {k} {x} {y} old w rows kept p hp =
+    let ex : (i : ℕ) → i < 2 ^ m → row m w x i ≡ row m old x i = λ i l. kept x i (rows .apart .0) l in
+    let ey : (i : ℕ) → i < 2 ^ m → row m w y i ≡ row m old y i = λ i l. kept y i (rows .apart .1) l in
     digit-cases t p
-    (λ z. let l = partner-lt m t p ht hp z in
+    (λ z. let l = partner-lt m t p (rows .distance) hp z in
     rw z (ap₂ (f rule) (ex p hp) (ap₂ (add rule) (ex (p + 2 ^ t) l) (ey (p + 2 ^ t) l))))
     (λ o. rw o (ap₂ (add rule) (ap₂ (f rule) (ex (p - 2 ^ t) (omega arith)) (ey (p - 2 ^ t) (omega arith))) (ex p hp)))
 
@@ -67,13 +71,20 @@ module _ {rule : MinSum} {m t k x y p : ℕ} {old w : List ℤ} (h : Filled rule
   pub filled-ready : Ready rule m old → Ready rule m w
   filled-ready ready =
       rw (h .is)
-      (ready-row ready k p (joinedAt rule t (row m old x) (row m old y))
+      (ready-written ready (k * 2 ^ m) p (joinedAt rule t (row m old x) (row m old y))
       (λ i l. joined-size rule t (row m old x) (row m old y) i (ready .tested .scale-le)))
 
   -- the row that is written has the place
   pub in-row : Ready rule m old → Rows m t k x y → p < 2 ^ m → k * 2 ^ m + p < length old
   in-row ready rows hp = omega (arith, row-lt m k p (rows .written) hp, ready .room)
 
+  -- the formula still gives what it gave at the start
+  filled-joined : Rows m t k x y → p ≤ 2 ^ m → (q : ℕ) → q < 2 ^ m
+      → joinedAt rule t (row m w x) (row m w y) q ≡ joinedAt rule t (row m old x) (row m old y) q
+  filled-joined rows fits =
+      joined-kept rule old w rows (λ j i ne l. rw (h .is) (row-apart m k j (k * 2 ^ m) p i (joinedAt rule t (row m old x) (row m old y)) old ne (le-refl (k * 2 ^ m)) (omega arith) l))
+
+  -- one message more, and a part of the row more
   pub filled-next : Ready rule m old → Rows m t k x y → p < 2 ^ m → {v : ℤ} → v ≡ newAt rule (2 ^ t) (x * 2 ^ m) (y * 2 ^ m) w p
       → Filled rule m t k x y (p + 1) old (set w (k * 2 ^ m + p) v)
   filled-next ready rows hp {v} e =
@@ -81,11 +92,17 @@ module _ {rule : MinSum} {m t k x y p : ℕ} {old w : List ℤ} (h : Filled rule
       let one : 2 ^ t ≤ 1 * 2 ^ m = rw one-mul (pow-mono {i = t} {j = m} (omega (arith, rows .distance))) in
       let hx : 2 ^ t ≤ x * 2 ^ m = omega (arith, mul-le-mul-right (2 ^ m) (rows .first .0)) in
       let hy : 2 ^ t ≤ y * 2 ^ m = omega (arith, mul-le-mul-right (2 ^ m) (rows .second .0)) in
-      let same : v ≡ g p = e ∙ new-joined rule m t x y w p hx hy ∙ rw (h .is)
-      (joined-same rule m t p (row m (overwriteFrom (k * 2 ^ m) p g old) x) (row m old x) (row m (overwriteFrom (k * 2 ^ m) p g old) y) (row m old y)
-      (rows .distance) hp
-      (λ i l. row-apart m k x p i g old (rows .apart .0) (omega arith) l) (λ i l. row-apart m k y p i g old (rows .apart .1) (omega arith) l)) in
+      let same : v ≡ g p = e ∙ new-joined rule m t x y w p hx hy ∙ filled-joined rows (omega arith) p hp in
       record { is = rw (same, h .is, add-one p) (overwriteFrom-store (k * 2 ^ m) p g old (in-row ready rows hp)) }
+
+  pub filled-part : Rows m t k x y → (n : ℕ) → p + n ≤ 2 ^ m → {v : List ℤ} → v ≡ rowPart rule m t k x y p n w → Filled rule m t k x y (p + n) old v
+  unfolding rowPart
+  filled-part rows n fits e =
+      let g = joinedAt rule t (row m old x) (row m old y) in
+      record {
+        is = e ∙ ap (overwriteFrom (k * 2 ^ m + p) n (λ i. joinedAt rule t (row m w x) (row m w y) (p + i))) (h .is)
+            ∙ overwriteFrom-more (k * 2 ^ m) p n _ g old (λ i l. filled-joined rows (omega arith) (p + i) (omega arith));
+      }
 
   pub filled-all : p ≡ 2 ^ m → w ≡ rowStep rule m t k x y old
   unfolding rowStep setRow
@@ -123,6 +140,7 @@ module _ {rule : MinSum} {m t k x y p : ℕ} {w : List ℤ} (ready : Ready rule 
       omega (arith, in-work y (rows .second .0) (rows .second .1), ready .room),
     );
     own = small-own x (rows .first .0) (rows .first .1);
+    y-own = small-own y (rows .second .0) (rows .second .1);
     x-after = small-after x (rows .first .0) (rows .first .1);
     y-after = small-after y (rows .second .0) (rows .second .1);
     x-before = small-before x (rows .first .0) (rows .first .1);

@@ -1,4 +1,5 @@
 pub mod Combined
 pub mod Filled
+pub mod Pairs
 pub mod Rows
 pub mod Steps

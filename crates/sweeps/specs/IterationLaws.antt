@@ -57,20 +57,20 @@ right-joined rule m s w = ap (λ (g : ℕ → ℤ). setRow m (m + 1 + suc s) g w
 
 -- ---- the state that every step keeps
 
-pub ready-row : {rule : MinSum} {m : ℕ} {w : List ℤ} → Ready rule m w → (k n : ℕ) (g : ℕ → ℤ) → ((i : ℕ) → i < n → natAbs (g i) ≤ rule .ceiling)
-    → Ready rule m (overwriteFrom (k * 2 ^ m) n g w)
-ready-row {rule} {m} {w} h k n g small = record {
+pub ready-written : {rule : MinSum} {m : ℕ} {w : List ℤ} → Ready rule m w → (a n : ℕ) (g : ℕ → ℤ)
+    → ((i : ℕ) → i < n → natAbs (g i) ≤ rule .ceiling) → Ready rule m (overwriteFrom a n g w)
+ready-written {rule} {m} {w} h a n g small = record {
   tested = h .tested;
   some = h .some;
   size = h .size;
   room = rw length-overwriteFrom (h .room);
-  within = λ j l. overwriteFrom-every (λ z. natAbs z ≤ rule .ceiling) (k * 2 ^ m) n g w j (pos 0) small (h .within j l);
+  within = λ j l. overwriteFrom-every (λ z. natAbs z ≤ rule .ceiling) a n g w j (pos 0) small (h .within j l);
 }
 
 pub ready-step : {rule : MinSum} {m : ℕ} {w : List ℤ} (t k x y : ℕ) → Ready rule m w → Ready rule m (rowStep rule m t k x y w)
 unfolding rowStep setRow
 ready-step {rule} {m} {w} t k x y h =
-    ready-row h k (2 ^ m) (joinedAt rule t (row m w x) (row m w y))
+    ready-written h (k * 2 ^ m) (2 ^ m) (joinedAt rule t (row m w x) (row m w y))
     (λ i l. joined-size rule t (row m w x) (row m w y) i (h .tested .scale-le))
 
 module _ {rule : MinSum} {m : ℕ} {w : List ℤ} (h : Ready rule m w) where
@@ -131,5 +131,5 @@ ready-start {rule} {m} mask llr old tested some size room small =
       room = rw length-overwrite room;
       within = λ j l. rw (overwrite-at N (λ j. pos 0) old j (pos 0) l (omega arith)) zero-le;
     } in
-    ready-row (ready-row zeros (m + 1 + 0) (2 ^ m) (prior (rule .ceiling) mask) (λ i l. prior-size (rule .ceiling) mask i))
-    m (2 ^ m) (λ i. getD llr i (pos 0)) small
+    ready-written (ready-written zeros ((m + 1 + 0) * 2 ^ m) (2 ^ m) (prior (rule .ceiling) mask) (λ i l. prior-size (rule .ceiling) mask i))
+    (m * 2 ^ m) (2 ^ m) (λ i. getD llr i (pos 0)) small

@@ -13,7 +13,7 @@ ghost use Rattle.message.specs.Message.{add, f};
 ghost use Rattle.message.specs.MessageLaws.{Tested};
 ghost use Rattle.sweeps.specs.Workspace.{setL, setR, workspaceLength};
 ghost use Rattle.sweeps.specs.Iteration.{leftSteps, rightSteps, iteration, prior, start};
-ghost use Rattle.sweeps.specs.Working.{messageAt, newAt, Readable, Rows, rowStep};
+ghost use Rattle.sweeps.specs.Working.{messageAt, newAt, upperAt, lowerAt, Readable, Rows, rowPart, rowStep, UpperRun};
 ghost use Rattle.sweeps.specs.IterationLaws.{Ready};
 use message::MinSum;
 
@@ -77,8 +77,8 @@ fn new_message(rule: MinSum, work: &[i16], p: usize, d: u16, x: usize, y: usize)
     )
 }
 
-// One step over the distance 2^t: row k from rows x and y.
-fn step(rule: MinSum, m: u32, t: u32, k: usize, x: usize, y: usize, work: &mut [i16])
+// A step position by position, by one formula for both sides.
+fn by_positions(rule: MinSum, m: u32, t: u32, k: usize, x: usize, y: usize, work: &mut [i16])
     requires { ⌜ Ready rule m (now work) ⌝ }
     requires { ⌜ Rows m t k x y ⌝ }
     ensures { λ _. ⌜ now (work .exit) ≡ rowStep rule m t k x y (now (work .entry)) ⌝ }
@@ -90,6 +90,82 @@ fn step(rule: MinSum, m: u32, t: u32, k: usize, x: usize, y: usize, work: &mut [
         let v = new_message(rule, work, p, d, x * n, y * n);
         work[k * n + p] = v;
         p += 1;
+    }
+}
+
+// The new message of an upper position p, from the rows that start at x and y.
+fn upper_message(rule: MinSum, work: &[i16], p: usize, d: usize, x: usize, y: usize) -> i16
+    requires { ⌜ Tested rule ⌝ }
+    requires { ⌜ Readable (rule .ceiling) p d x y (now work) ⌝ }
+    ensures { λ r. ⌜ r ≡ upperAt rule d x y (now (work .entry)) p ⌝ }
+{
+    let sum = message::add_cut(rule, get(work, x, p + d), get(work, y, p + d));
+    message::min_sum(rule, get(work, x, p), sum)
+}
+
+// The new message of its partner, the lower position p + d.
+fn lower_message(rule: MinSum, work: &[i16], p: usize, d: usize, x: usize, y: usize) -> i16
+    requires { ⌜ Tested rule ⌝ }
+    requires { ⌜ Readable (rule .ceiling) p d x y (now work) ⌝ }
+    ensures { λ r. ⌜ r ≡ lowerAt rule d x y (now (work .entry)) p ⌝ }
+{
+    let part = message::min_sum(rule, get(work, x, p), get(work, y, p));
+    message::add_cut(rule, part, get(work, x, p + d))
+}
+
+// The new messages of the 2^t upper positions from p on and of their partners, pair by pair. The loop has no test in it and reads no position
+// beside the two runs.
+fn join_runs(rule: MinSum, m: u32, t: u32, k: usize, x: usize, y: usize, p: usize, work: &mut [i16])
+    requires { ⌜ Ready rule m (now work) ⌝ }
+    requires { ⌜ Rows m t k x y ⌝ }
+    requires { ⌜ UpperRun m t p ⌝ }
+    ensures { λ _. ⌜ now (work .exit) ≡ rowPart rule m t k x y p (2 ^ t + 2 ^ t) (now (work .entry)) ⌝ }
+{
+    let n = polar::power_of_two(m);
+    let d = polar::power_of_two(t);
+    let from_x = x * n;
+    let from_y = y * n;
+    let to_upper = k * n + p;
+    let to_lower = to_upper + d;
+    let mut i = 0;
+    while i < d {
+        let q = p + i;
+        let upper = upper_message(rule, work, q, d, from_x, from_y);
+        let lower = lower_message(rule, work, q, d, from_x, from_y);
+        work[to_upper + i] = upper;
+        work[to_lower + i] = lower;
+        i += 1;
+    }
+}
+
+// A step in runs of 2^t positions: the mask test chooses the upper runs, and each is joined with the lower one behind it.
+fn by_pairs(rule: MinSum, m: u32, t: u32, k: usize, x: usize, y: usize, work: &mut [i16])
+    requires { ⌜ Ready rule m (now work) ⌝ }
+    requires { ⌜ Rows m t k x y ⌝ }
+    ensures { λ _. ⌜ now (work .exit) ≡ rowStep rule m t k x y (now (work .entry)) ⌝ }
+{
+    let n = polar::power_of_two(m);
+    let d = polar::power_of_two(t);
+    let mut p = 0;
+    while p < n {
+        if p & d == 0 {
+            join_runs(rule, m, t, k, x, y, p, work);
+        }
+        p += d;
+    }
+}
+
+// One step over the distance 2^t: row k from rows x and y. Runs of fewer than eight messages do not fill a vector register; they are slower
+// than the loop over positions.
+fn step(rule: MinSum, m: u32, t: u32, k: usize, x: usize, y: usize, work: &mut [i16])
+    requires { ⌜ Ready rule m (now work) ⌝ }
+    requires { ⌜ Rows m t k x y ⌝ }
+    ensures { λ _. ⌜ now (work .exit) ≡ rowStep rule m t k x y (now (work .entry)) ⌝ }
+{
+    if t < 3 {
+        by_positions(rule, m, t, k, x, y, work);
+    } else {
+        by_pairs(rule, m, t, k, x, y, work);
     }
 }
 

@@ -1,18 +1,17 @@
--- `step` meets its contract: the first p messages of row k are new.
-use Prim.Native.Nat.{ℕ, _≤_, _<_, _-_, _+_, _*_, _%_, _^_, zero-le}
+-- `by_positions` meets its contract: the first p messages of row k are new.
+use Prim.Native.Nat.{ℕ, _≤_, _<_, _-_, _+_, _*_, _^_, zero-le}
 use mathlib.Core.Path.{_≡_, sym, subst, _∙_}
 use native.Mathlib.Nat.{one-mul, lt-of-lt-of-le}
 use native.Mathlib.Omega.{arith}
-use borrow.Author.Needs.{needs}
 use denote.Ref.{now}
 use lib.Dec.{lit<}
 use lib.ListN.{length}
 use lib.Pow.{shl-exact}
 use Rattle.message.proofs.Machine.{told}
 use Rattle.sweeps.specs.WorkspaceLaws.{row-lt}
-use Rattle.sweeps.proofs.Filled.{Filled, filled-none, filled-length, filled-ready, in-row, filled-next, filled-all, readable}
-use Rattle.sweeps.proofs.step.Statement.{statement}
-use Rattle.sweeps.proofs.step.Tie as tie
+use Rattle.sweeps.proofs.Filled.{Filled, filled-none, filled-length, filled-ready, filled-next, filled-all, readable}
+use Rattle.sweeps.proofs.by_positions.Statement.{statement}
+use Rattle.sweeps.proofs.by_positions.Tie as tie
 
 abbrev Inv-loop : tie.InvT-loop
 Inv-loop rule m t k x y work₀ n d p₀ work p = (n ≡ 2 ^ m) × (d ≡ 2 ^ t) × (p ≤ n) × Filled rule m t k x y p work₀ work
@@ -94,8 +93,8 @@ same-length c = filled-length (c .before .loop .inv .3)
 returns : tie.Need-returns Inv-loop μ-loop
 returns c = filled-all (c .before .loop .inv .3) (omega arith)
 
-pub step-spec : {M : Type 1} → statement M
-step-spec =
+pub by-positions-spec : {M : Type 1} → statement M
+by-positions-spec =
     tie.close
     (tie.spec
     Inv-loop
