@@ -4,3 +4,4 @@ pub mod MemoryLaws
 pub mod NumberLaws
 pub mod Signs
 pub mod SignLaws
+pub mod WrittenLaws

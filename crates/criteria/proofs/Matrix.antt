@@ -14,7 +14,7 @@ use Rattle.polar.specs.Code.{byteOf, bitOf, coded}
 use Rattle.polar.specs.BlockLaws.{bitsOf, Bits}
 use Rattle.polar.specs.TransformLaws.{coded-same}
 use Rattle.criteria.specs.Criteria.{every, untied, gMatrix}
-use Rattle.criteria.specs.Working.{MarkBytes}
+use Rattle.criteria.specs.Private.{MarkBytes}
 use Rattle.criteria.specs.EveryLaws.{every-at, every-same}
 
 pub tie-fails : (m : ℕ) (mark codedMark : ℕ → ℕ) → untied (2 ^ m) mark ≡ false → false ≡ gMatrix m mark codedMark

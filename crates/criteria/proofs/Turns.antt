@@ -8,9 +8,6 @@ use native.Mathlib.Omega.{arith}
 use borrow.Author.Tests.{le-leb, lt-leb, leb-true, leb-false}
 use lib.Dec.{leb}
 use lib.IntN.{ℤ, natAbs}
-use lib.ListN.{length, getD, set}
-use Rattle.calls.specs.Memory.{overwrite}
-use Rattle.calls.specs.MemoryLaws.{length-overwrite, overwrite-store}
 use Rattle.polar.specs.Code.{byKind}
 use Rattle.criteria.specs.Criteria.{leastSize}
 use Rattle.criteria.specs.Memory.{steadyNext}
@@ -33,21 +30,6 @@ least-next soft operand i least size h e =
 pub frozen-kind : (kind : ℕ) (same : Bool) → (kind ≡ 0 → ⊥) → true ≡ byKind kind same true
 frozen-kind zero same h = absurd (h refl)
 frozen-kind (suc kind) same h = refl
-
--- ---- the copy: the first i elements are written
-
-pub record Copied (marks : List ℕ) (i : ℕ) (old bits : List ℕ) : Type 0 where
-  pub is : bits ≡ overwrite i (λ j. getD marks j 0) old
-
-pub copied-none : {marks old : List ℕ} → Copied marks 0 old old
-copied-none = record { is = refl }
-
-module _ {marks : List ℕ} {i : ℕ} {old bits : List ℕ} (h : Copied marks i old bits) where
-  pub copied-length : length bits ≡ length old
-  copied-length = ap length (h .is) ∙ simp length-overwrite
-
-  pub copied-next : i < length old → Copied marks (i + 1) old (set bits i (getD marks i 0))
-  copied-next l = record { is = rw (h .is, add-one i) (overwrite-store i (λ j. getD marks j 0) old l) }
 
 -- ---- the steady count after an iteration that is not the first
 

@@ -1,15 +1,13 @@
--- Laws of the criteria: each reads the first 2 ^ m places alone; the steady count decides criterion 3; and none changes where the signs of
--- the soft outputs turn with the bits u and those of the coded soft outputs with the coded bits.
-use Prim.Native.Nat.{ℕ, zero, suc, _-_, _^_, _≤_, _<_, zero-le}
+-- Laws of the criteria: each reads the first 2 ^ m places alone, and none changes where the signs of the soft outputs turn with the bits u
+-- and those of the coded soft outputs with the coded bits.
+use Prim.Native.Nat.{ℕ, zero, suc, _-_, _^_, _≤_, _<_}
 use mathlib.Core.Path.{_≡_, refl, sym, ap, ap₂, _∙_, fun-ext}
-use mathlib.Core.Bool.{Bool, true, false, not, cond, _&&_, Bool·beq, and-false, true≢false}
+use mathlib.Core.Bool.{Bool, true, false, not, _&&_, Bool·beq, true≢false}
 use mathlib.Core.List.{List}
-use native.Mathlib.Nat.{sub-zero, suc-sub-suc}
 use native.Mathlib.Omega.{arith}
-use lib.Dec.{leb, eqb, leb·suc-zero, leb·suc-suc}
+use lib.Dec.{leb, eqb}
 use lib.IntN.{ℤ, pos, negsuc, natAbs}
 use lib.ListN.{getD}
-use borrow.Author.Tests.{le-leb, lt-leb}
 use Rattle.calls.specs.Signs.{flipped}
 use Rattle.calls.specs.SignLaws.{size-flipped}
 use Rattle.polar.specs.Code.{xor, bitOf, byKind, coded}
@@ -18,10 +16,9 @@ use Rattle.criteria.specs.declared.Criterion.{Criterion}
 use Rattle.criteria.specs.declared.Criterion.the-variants.{Never, GMatrix, LeastSize, Steady}
 use Rattle.criteria.specs.Marks.{markOf}
 use Rattle.criteria.specs.Criteria.{every, untied, gMatrix, leastSize, sameMarks, steady, holds}
-use Rattle.criteria.specs.Memory.{steadyCount, steadyNext, keptMarks}
-use Rattle.criteria.specs.Working.{holdsNow}
+use Rattle.criteria.specs.Memory.{keptMarks}
 use Rattle.calls.specs.NumberLaws.{and-passed}
-use Rattle.criteria.specs.EveryLaws.{every-same, every-at, every-first, where-true}
+use Rattle.criteria.specs.EveryLaws.{every-same, every-at, where-true}
 
 pub mark-le : (z : ℤ) → markOf z ≤ 2
 mark-le (pos zero) = omega arith
@@ -52,59 +49,6 @@ same-marks-same n mask before before′ now now′ h k =
 
 pub steady-same : (W t : ℕ) (same same′ : ℕ → Bool) → ((j : ℕ) → same j ≡ same′ j) → steady W same t ≡ steady W same′ t
 steady-same W t same same′ h = ap (λ (s : ℕ → Bool). steady W s t) (fun-ext h)
-
--- ---- the steady count
-
-pub steady-next : (same : ℕ → Bool) (t : ℕ) → steadyNext t (steadyCount same t) (same (suc t)) ≡ steadyCount same (suc t)
-steady-next same zero = refl
-steady-next same (suc t) = refl
-
-cond-le : (b : Bool) (n t : ℕ) → n ≤ t → cond b n 0 ≤ t
-cond-le true n t h = h
-cond-le false n t h = omega arith
-
-pub steady-count-le : (same : ℕ → Bool) (t : ℕ) → steadyCount same t ≤ t
-steady-count-le same zero = omega arith
-steady-count-le same (suc zero) = omega arith
-steady-count-le same (suc (suc t)) =
-    cond-le (same (suc (suc t))) (suc (steadyCount same (suc t))) (suc (suc t)) (omega (arith, steady-count-le same (suc t)))
-
--- a last iteration that changed the marks, and one that kept them
-module _ (same : ℕ → Bool) (W t : ℕ) where
-  first : {b : Bool} → same (suc t) ≡ b → every (suc W) (λ k. same (suc t - k)) ≡ b && every W (λ k. same (t - k))
-  first e =
-      every-first W (λ k. same (suc t - k))
-      ∙ ap₂ (λ (a b : Bool). a && b) (ap same (sub-zero (suc t)) ∙ e) (every-same W _ _ (λ k l. ap same (suc-sub-suc t k)))
-
-  changed : same (suc t) ≡ false → steady (suc W) same (suc t) ≡ false
-  changed e = ap (λ (b : Bool). leb (suc (suc W)) (suc t) && b) (first e) ∙ and-false (leb (suc (suc W)) (suc t))
-
-  kept : same (suc t) ≡ true → steady (suc W) same (suc t) ≡ steady W same t
-  kept e = ap₂ (λ (a b : Bool). a && b) (leb·suc-suc (suc W) t) (first e)
-
-pub steady-count : (W : ℕ) (same : ℕ → Bool) (t : ℕ) → 1 ≤ t → leb W (steadyCount same t) ≡ steady W same t
-steady-count W same zero h = absurd (omega arith)
-steady-count zero same (suc t) h = le-leb 0 (steadyCount same (suc t)) zero-le ∙ sym (ap (λ (b : Bool). b && true) (le-leb 1 (suc t) h))
-steady-count (suc W) same (suc zero) h =
-    lt-leb (suc W) 0 (omega arith)
-    ∙ sym (ap (λ (b : Bool). b && every (suc W) (λ k. same (1 - k))) (lt-leb (suc (suc W)) 1 (omega arith)))
-steady-count (suc W) same (suc (suc t)) h = go (steady-count W same (suc t) (omega arith)) (same (suc (suc t))) refl
-  where
-    go : leb W (steadyCount same (suc t)) ≡ steady W same (suc t) → (b : Bool) → same (suc (suc t)) ≡ b
-        → leb (suc W) (cond b (suc (steadyCount same (suc t))) 0) ≡ steady (suc W) same (suc (suc t))
-    go ih true e = leb·suc-suc W (steadyCount same (suc t)) ∙ ih ∙ sym (kept same W (suc t) e)
-    go ih false e = leb·suc-zero W ∙ sym (changed same W (suc t) e)
-
--- ---- the criterion, from what one iteration leaves
-
-module _ (m : ℕ) (mask : List ℕ) (soft codedSoft : ℕ → ℕ → ℤ) (t : ℕ) (first : 1 ≤ t) (count : ℕ) (value : ℕ → ℤ) (mark codedMark : ℕ → ℕ)
-    (counted : count ≡ steadyCount (keptMarks m mask soft) t) (values : (i : ℕ) → i < 2 ^ m → value i ≡ soft t i)
-    (marks : (i : ℕ) → i < 2 ^ m → mark i ≡ markOf (soft t i)) (codedMarks : (i : ℕ) → i < 2 ^ m → codedMark i ≡ markOf (codedSoft t i)) where
-  pub holds-now : (criterion : Criterion) → holdsNow m criterion count value mark codedMark ≡ holds m criterion mask soft codedSoft t
-  holds-now Never = refl
-  holds-now GMatrix = g-matrix-same m mark _ codedMark _ marks codedMarks
-  holds-now (LeastSize operand) = least-size-same (2 ^ m) operand value (soft t) values
-  holds-now (Steady W) = rw counted (steady-count W (keptMarks m mask soft) t first)
 
 -- ---- signs turned
 

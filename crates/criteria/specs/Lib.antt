@@ -1,6 +1,8 @@
 pub mod Marks
 pub mod Criteria
 pub mod Memory
-pub mod Working
+pub mod Private
 pub mod EveryLaws
 pub mod CriteriaLaws
+pub mod MemoryLaws
+pub mod SliceLaws

@@ -11,8 +11,8 @@ ghost use Rattle.polar.specs.Code.{byKind};
 ghost use Rattle.calls.specs.Memory.{overwrite};
 ghost use Rattle.criteria.specs.Marks.{markOf};
 ghost use Rattle.criteria.specs.Criteria.{every, untied, gMatrix, leastSize, sameMarks};
-ghost use Rattle.criteria.specs.Memory.{steadyNext};
-ghost use Rattle.criteria.specs.Working.{SoftValues, MarkBytes, holdsNow};
+ghost use Rattle.criteria.specs.Memory.{steadyNext, countFor, nothing, memoryNext, holdsNow};
+ghost use Rattle.criteria.specs.Private.{SoftValues, MarkBytes, MemoryInRange, CriterionTried};
 
 // The criterion that ends the decoding. A later criterion joins them here.
 pub enum Criterion {
@@ -32,6 +32,19 @@ pub fn mark(value: i16) -> u8
         0
     } else {
         2
+    }
+}
+
+// The marks of the first n soft values.
+pub fn mark_all(n: usize, soft: &[i16], marks: &mut [u8])
+    requires { ⌜ (n ≤ length (now soft)) × (n ≤ length (now marks)) ⌝ }
+    ensures { λ _. ⌜ now (marks .exit)
+        ≡ overwrite n (λ i. markOf (getD (now (soft .entry)) i (pos 0))) (now (marks .entry)) ⌝ }
+{
+    let mut i = 0;
+    while i < n {
+        marks[i] = mark(soft[i]);
+        i += 1;
     }
 }
 
@@ -165,16 +178,23 @@ fn steady_after(iterations: u32, steady: u32, same: bool) -> u32
     if same { steady + 1 } else { 0 }
 }
 
-// What a criterion remembers between iterations: how many there were, and at how many of the last ones the marks at the information
-// positions equalled those of the iteration before. What a later criterion remembers joins them here.
+// What a criterion remembers between iterations: how many there were, and under criterion 3 how many of the last ones kept the marks
+// at the information positions. The decoder hands it on and takes no part of it; what a later criterion remembers joins it here.
 pub struct Memory {
-    pub iterations: u32,
-    pub steady: u32,
+    iterations: u32,
+    steady: u32,
+}
+
+// What is left of an iteration beside the marks: what the criterion remembers from now on, and whether it holds.
+pub struct Progress {
+    pub memory: Memory,
+    pub holds: bool,
 }
 
 impl Memory {
+    // Before the first iteration.
     pub fn new() -> Memory
-        ensures { λ r. ⌜ (r .iterations ≡ 0) × (r .steady ≡ 0) ⌝ }
+        ensures { λ r. ⌜ r ≡ nothing ⌝ }
     {
         Memory {
             iterations: 0,
@@ -182,22 +202,60 @@ impl Memory {
         }
     }
 
-    // After one iteration more, where `same` says whether its marks at the information positions equalled those of the one before.
-    pub fn after(self, same: bool) -> Memory
-        requires { ⌜ (self .iterations < 1000) × (self .steady ≤ self .iterations) ⌝ }
-        ensures { λ r. ⌜ (r .iterations ≡ self .iterations + 1) × (r .steady ≡ steadyNext (self .iterations) (self .steady) same) ⌝ }
+    // The steady count after an iteration with these soft values, where `before` holds the marks of the iteration before.
+    fn steady_next(
+        self,
+        m: u32,
+        criterion: Criterion,
+        mask: &[u8],
+        before: &[u8],
+        soft: &[i16],
+    ) -> u32
+        requires { ⌜ (m ≤ 10) × MemoryInRange self ⌝ }
+        requires { ⌜ (2 ^ m ≤ length (now mask)) × (2 ^ m ≤ length (now before)) × (2 ^ m ≤ length (now soft)) ⌝ }
+        ensures { λ r. ⌜ r ≡ countFor criterion (steadyNext (self .iterations) (self .steady)
+            (sameMarks (2 ^ m) (now (mask .entry)) (λ i. getD (now (before .entry)) i 0)
+            (λ i. markOf (getD (now (soft .entry)) i (pos 0))))) ⌝ }
+    {
+        match criterion {
+            Criterion::Never => 0,
+            Criterion::GMatrix => 0,
+            Criterion::LeastSize(_) => 0,
+            Criterion::Steady(_) => {
+                let iterations = self.iterations;
+                let steady = self.steady;
+                let same = same_marks(mask, before, soft, polar::power_of_two(m));
+                steady_after(iterations, steady, same)
+            }
+        }
+    }
+
+    // After an iteration with these soft values and coded marks.
+    fn next(
+        self,
+        m: u32,
+        criterion: Criterion,
+        mask: &[u8],
+        before: &[u8],
+        soft: &[i16],
+        _coded: &[u8],
+    ) -> Memory
+        requires { ⌜ (m ≤ 10) × MemoryInRange self ⌝ }
+        requires { ⌜ (2 ^ m ≤ length (now mask)) × (2 ^ m ≤ length (now before)) × (2 ^ m ≤ length (now soft)) ⌝ }
+        ensures { λ r. ⌜ r ≡ memoryNext m criterion (now (mask .entry)) self (λ i. getD (now (before .entry)) i 0)
+            (λ i. getD (now (soft .entry)) i (pos 0)) (λ i. getD (now («_coded» .entry)) i 0) ⌝ }
     {
         let iterations = self.iterations;
-        let steady = self.steady;
+        let steady = self.steady_next(m, criterion, mask, before, soft);
         Memory {
             iterations: iterations + 1,
-            steady: steady_after(iterations, steady, same),
+            steady,
         }
     }
 }
 
 // Whether the criterion holds after the iteration whose soft values, marks and coded marks these are.
-pub fn holds_now(
+fn holds_now(
     m: u32,
     criterion: Criterion,
     memory: Memory,
@@ -207,12 +265,39 @@ pub fn holds_now(
 ) -> bool
     requires { ⌜ m ≤ 10 ⌝ }
     requires { ⌜ SoftValues (2 ^ m) (now soft) × MarkBytes (2 ^ m) (now marks) × MarkBytes (2 ^ m) (now coded) ⌝ }
-    ensures { λ r. ⌜ r ≡ holdsNow m criterion (memory .steady) (λ i. getD (now (soft .entry)) i (pos 0)) (λ i. getD (now (marks .entry)) i 0) (λ i. getD (now (coded .entry)) i 0) ⌝ }
+    ensures { λ r. ⌜ r ≡ holdsNow m criterion memory (λ i. getD (now (soft .entry)) i (pos 0))
+        (λ i. getD (now (marks .entry)) i 0) (λ i. getD (now (coded .entry)) i 0) ⌝ }
 {
     match criterion {
         Criterion::Never => false,
         Criterion::GMatrix => g_matrix(m, marks, coded),
         Criterion::LeastSize(operand) => least_size(operand, soft, polar::power_of_two(m)),
         Criterion::Steady(iterations) => iterations <= memory.steady,
+    }
+}
+
+// The criterion, tried after an iteration with these soft values and coded marks. `marks` holds the marks of the iteration before,
+// unless this is the first, and afterwards those of this one.
+pub fn try_criterion(
+    m: u32,
+    criterion: Criterion,
+    memory: Memory,
+    mask: &[u8],
+    soft: &[i16],
+    marks: &mut [u8],
+    coded: &[u8],
+) -> Progress
+    requires { ⌜ (m ≤ 10) × MemoryInRange memory ⌝ }
+    requires { ⌜ (2 ^ m ≤ length (now mask)) × (2 ^ m ≤ length (now marks)) ⌝ }
+    requires { ⌜ SoftValues (2 ^ m) (now soft) × MarkBytes (2 ^ m) (now coded) ⌝ }
+    ensures { λ r. ⌜ CriterionTried m criterion memory (now (mask .entry)) (λ i. getD (now (soft .entry)) i (pos 0))
+        (λ i. getD (now (coded .entry)) i 0) (now (marks .entry)) (now (marks .exit)) r ⌝ }
+{
+    let next = memory.next(m, criterion, mask, marks, soft, coded);
+    mark_all(polar::power_of_two(m), soft, marks);
+    let holds = holds_now(m, criterion, next, soft, marks, coded);
+    Progress {
+        memory: next,
+        holds,
     }
 }

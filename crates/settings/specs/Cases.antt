@@ -4,7 +4,7 @@ use mathlib.Core.Path.{_≡_, refl}
 use mathlib.Core.List.{List, [], _∷_, map}
 use lib.IntN.{ℤ, pos, negsuc}
 use Rattle.settings.specs.declared.Settings.{Settings}
-use Rattle.settings.specs.declared.Room.{Room}
+use Rattle.settings.specs.declared.Lengths.{Lengths}
 use Rattle.settings.specs.Settings.{settingsNumber, decodeNumber}
 
 -- m, C, k, T, criterion, operand
@@ -13,8 +13,8 @@ set m C k T criterion operand =
     record { m = m; ceiling = C; scale = k; limit = T; criterion = criterion; operand = operand }
 
 -- soft, mark, coded soft, coded mark, workspace
-abbrev rooms : ℕ → ℕ → ℕ → ℕ → ℕ → Room
-rooms soft mark coded coded-mark work =
+abbrev lengths : ℕ → ℕ → ℕ → ℕ → ℕ → Lengths
+lengths soft mark coded coded-mark work =
     record { soft = soft; mark = mark; «coded_soft» = coded; «coded_mark» = coded-mark; work = work }
 
 abbrev mask : List ℕ
@@ -23,8 +23,8 @@ mask = 1 ∷ 0 ∷ []
 abbrev llr : List ℤ
 llr = pos 1 ∷ negsuc 0 ∷ []
 
-abbrev exact : Room
-exact = rooms 2 2 2 2 8
+abbrev exact : Lengths
+exact = lengths 2 2 2 2 8
 
 abbrev of-settings : Settings → ℕ
 of-settings s = decodeNumber s mask llr exact
@@ -32,8 +32,8 @@ of-settings s = decodeNumber s mask llr exact
 abbrev of-operand : ℕ → ℕ → ℕ
 of-operand criterion operand = of-settings (set 1 31 16 10 criterion operand)
 
-abbrev of-room : Room → ℕ
-of-room room = decodeNumber (set 1 31 16 10 1 0) mask llr room
+abbrev of-lengths : Lengths → ℕ
+of-lengths given = decodeNumber (set 1 31 16 10 1 0) mask llr given
 
 abbrev of-mask : List ℕ → ℕ
 of-mask l = decodeNumber (set 1 31 16 10 1 0) l llr exact
@@ -78,9 +78,9 @@ pub operand-steady-marks : map (of-operand 3) (0 ∷ 1 ∷ 8 ∷ 9 ∷ []) ≡ 6
 operand-steady-marks = refl
 
 -- 7: each slice one short
-pub short-room : map of-room (exact ∷ rooms 1 2 2 2 8 ∷ rooms 2 1 2 2 8 ∷ rooms 2 2 1 2 8 ∷ rooms 2 2 2 1 8 ∷ rooms 2 2 2 2 7 ∷ [])
+pub short-slices : map of-lengths (exact ∷ lengths 1 2 2 2 8 ∷ lengths 2 1 2 2 8 ∷ lengths 2 2 1 2 8 ∷ lengths 2 2 2 1 8 ∷ lengths 2 2 2 2 7 ∷ [])
     ≡ 0 ∷ 7 ∷ 7 ∷ 7 ∷ 7 ∷ 7 ∷ []
-short-room = refl
+short-slices = refl
 
 pub short-mask : of-mask (0 ∷ []) ≡ 7
 short-mask = refl
@@ -105,7 +105,7 @@ pub last-llr : map (λ z. of-llr (pos 0 ∷ z ∷ [])) sizes ≡ 0 ∷ 0 ∷ 10 
 last-llr = refl
 
 -- what stands behind the two positions is not read
-pub behind : decodeNumber (set 1 31 16 10 1 0) (1 ∷ 0 ∷ 2 ∷ []) (pos 1 ∷ negsuc 0 ∷ negsuc 32767 ∷ []) (rooms 3 3 3 3 9) ≡ 0
+pub behind : decodeNumber (set 1 31 16 10 1 0) (1 ∷ 0 ∷ 2 ∷ []) (pos 1 ∷ negsuc 0 ∷ negsuc 32767 ∷ []) (lengths 3 3 3 3 9) ≡ 0
 behind = refl
 
 -- several at once: the lowest. Each line mends what the line before was refused for
@@ -114,10 +114,10 @@ pub lowest : map of-settings (
     ) ≡ 1 ∷ 2 ∷ 3 ∷ 4 ∷ 5 ∷ 6 ∷ []
 lowest = refl
 
-abbrev of-block : List ℤ → List ℕ → Room → ℕ
-of-block l m room = decodeNumber (set 1 31 16 10 3 8) m l room
+abbrev of-block : List ℤ → List ℕ → Lengths → ℕ
+of-block l m given = decodeNumber (set 1 31 16 10 3 8) m l given
 
-pub lowest-behind : of-block (pos 32 ∷ pos 0 ∷ []) (2 ∷ 1 ∷ []) (rooms 2 2 2 2 7)
+pub lowest-behind : of-block (pos 32 ∷ pos 0 ∷ []) (2 ∷ 1 ∷ []) (lengths 2 2 2 2 7)
     ∷ of-block (pos 32 ∷ pos 0 ∷ []) (2 ∷ 1 ∷ []) exact
     ∷ of-block (pos 32 ∷ pos 0 ∷ []) (1 ∷ 1 ∷ []) exact
     ∷ of-block (pos 32 ∷ pos 0 ∷ []) (1 ∷ 0 ∷ []) exact

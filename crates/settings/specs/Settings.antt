@@ -8,7 +8,7 @@ use lib.ListN.{length, getD}
 use Rattle.calls.specs.Numbers.{check, andThen, between}
 use Rattle.polar.specs.Code.{informationCount, areBits}
 use Rattle.settings.specs.declared.Settings.{Settings}
-use Rattle.settings.specs.declared.Room.{Room}
+use Rattle.settings.specs.declared.Lengths.{Lengths}
 
 -- 6. The operand of criteria 0 and 1 is 0, of 2 it is 1 to C, of 3 it is 1 to 8
 abbrev pub operandFits : ℕ → ℕ → ℕ → Bool
@@ -17,36 +17,40 @@ operandFits C (suc zero) operand = eqb operand 0
 operandFits C (suc (suc zero)) operand = between 1 C operand
 operandFits C (suc (suc (suc n))) operand = between 1 8 operand
 
+-- the largest limit T
+abbrev pub largestLimit : ℕ
+largestLimit = 200
+
 -- 1 to 6
 abbrev pub settingsNumber : Settings → ℕ
 settingsNumber s =
     check (between 1 10 (s .m)) 1
     (check (between 1 2047 (s .ceiling)) 2
     (check (between 1 16 (s .scale)) 3
-    (check (between 1 200 (s .limit)) 4
+    (check (between 1 largestLimit (s .limit)) 4
     (check (leb (s .criterion) 3) 5
     (check (operandFits (s .ceiling) (s .criterion) (s .operand)) 6 0)))))
 
 -- 7. Mask, LLRs and the four outputs need N elements, the workspace 2 (m + 1) N
-abbrev pub slicesFit : ℕ → ℕ → ℕ → Room → Bool
-slicesFit m mask llr room =
+abbrev pub slicesFit : ℕ → ℕ → ℕ → Lengths → Bool
+slicesFit m mask llr lengths =
     leb (2 ^ m) mask
     && leb (2 ^ m) llr
-    && leb (2 ^ m) (room .soft)
-    && leb (2 ^ m) (room .mark)
-    && leb (2 ^ m) (room .«coded_soft»)
-    && leb (2 ^ m) (room .«coded_mark»)
-    && leb (2 * (m + 1) * 2 ^ m) (room .work)
+    && leb (2 ^ m) (lengths .soft)
+    && leb (2 ^ m) (lengths .mark)
+    && leb (2 ^ m) (lengths .«coded_soft»)
+    && leb (2 ^ m) (lengths .«coded_mark»)
+    && leb (2 * (m + 1) * 2 ^ m) (lengths .work)
 
 -- 10. No LLR of the first n has a size above C
 abbrev pub withinCeiling : ℕ → ℕ → List ℤ → Bool
 withinCeiling zero C llr = true
 withinCeiling (suc n) C llr = withinCeiling n C llr && leb (natAbs (getD llr n (pos 0))) C
 
-abbrev pub decodeNumber : Settings → List ℕ → List ℤ → Room → ℕ
-decodeNumber s mask llr room =
+abbrev pub decodeNumber : Settings → List ℕ → List ℤ → Lengths → ℕ
+decodeNumber s mask llr lengths =
     andThen (settingsNumber s)
-    (check (slicesFit (s .m) (length mask) (length llr) room) 7
+    (check (slicesFit (s .m) (length mask) (length llr) lengths) 7
     (check (areBits (2 ^ s .m) mask) 8
     (check (leb 1 (informationCount mask (2 ^ s .m))) 9
     (check (withinCeiling (2 ^ s .m) (s .ceiling) llr) 10 0))))

@@ -15,8 +15,8 @@ use Rattle.calls.specs.Signs.{flipped}
 use Rattle.calls.specs.SignLaws.{size-flipped}
 use Rattle.polar.specs.Code.{informationCount, areBits}
 use Rattle.settings.specs.declared.Settings.{Settings}
-use Rattle.settings.specs.declared.Room.{Room}
-use Rattle.settings.specs.Settings.{operandFits, settingsNumber, slicesFit, withinCeiling, decodeNumber}
+use Rattle.settings.specs.declared.Lengths.{Lengths}
+use Rattle.settings.specs.Settings.{operandFits, largestLimit, settingsNumber, slicesFit, withinCeiling, decodeNumber}
 
 -- ---- an accepted call
 
@@ -34,7 +34,7 @@ pub record SettingsAccepted (s : Settings) : Type 0 where
   pub scale-some : 1 ≤ s .scale
   pub scale-le : s .scale ≤ 16
   pub limit-some : 1 ≤ s .limit
-  pub limit-le : s .limit ≤ 200
+  pub limit-le : s .limit ≤ largestLimit
   pub criterion-le : s .criterion ≤ 3
   pub operand : operandFits (s .ceiling) (s .criterion) (s .operand) ≡ true
 
@@ -49,7 +49,7 @@ settings-accepted s h =
     let m = between-passed 1 10 (s .m) (one .0) in
     let ceiling = between-passed 1 2047 (s .ceiling) (two .0) in
     let scale = between-passed 1 16 (s .scale) (three .0) in
-    let limit = between-passed 1 200 (s .limit) (four .0) in
+    let limit = between-passed 1 largestLimit (s .limit) (four .0) in
     record {
       m-some = m .0;
       m-le = m .1;
@@ -63,17 +63,18 @@ settings-accepted s h =
       operand = six .0;
     }
 
-pub record SlicesAccepted (m mask llr : ℕ) (room : Room) : Type 0 where
+pub record SlicesAccepted (m mask llr : ℕ) (lengths : Lengths) : Type 0 where
   pub mask-long : 2 ^ m ≤ mask
   pub llr-long : 2 ^ m ≤ llr
-  pub room-soft : 2 ^ m ≤ room .soft
-  pub room-mark : 2 ^ m ≤ room .mark
-  pub room-coded-soft : 2 ^ m ≤ room .«coded_soft»
-  pub room-coded-mark : 2 ^ m ≤ room .«coded_mark»
-  pub room-work : 2 * (m + 1) * 2 ^ m ≤ room .work
+  pub soft-long : 2 ^ m ≤ lengths .soft
+  pub mark-long : 2 ^ m ≤ lengths .mark
+  pub coded-soft-long : 2 ^ m ≤ lengths .«coded_soft»
+  pub coded-mark-long : 2 ^ m ≤ lengths .«coded_mark»
+  pub work-long : 2 * (m + 1) * 2 ^ m ≤ lengths .work
 
-pub slices-accepted : (m mask llr : ℕ) (room : Room) → slicesFit m mask llr room ≡ true → SlicesAccepted m mask llr room
-slices-accepted m mask llr room h =
+pub slices-accepted : (m mask llr : ℕ) (lengths : Lengths) → slicesFit m mask llr lengths ≡ true
+    → SlicesAccepted m mask llr lengths
+slices-accepted m mask llr lengths h =
     let six = and-passed _ _ h in
     let five = and-passed _ _ (six .0) in
     let four = and-passed _ _ (five .0) in
@@ -83,69 +84,38 @@ slices-accepted m mask llr room h =
     record {
       mask-long = leb-true _ _ (one .0);
       llr-long = leb-true _ _ (one .1);
-      room-soft = leb-true _ _ (two .1);
-      room-mark = leb-true _ _ (three .1);
-      room-coded-soft = leb-true _ _ (four .1);
-      room-coded-mark = leb-true _ _ (five .1);
-      room-work = leb-true _ _ (six .1);
+      soft-long = leb-true _ _ (two .1);
+      mark-long = leb-true _ _ (three .1);
+      coded-soft-long = leb-true _ _ (four .1);
+      coded-mark-long = leb-true _ _ (five .1);
+      work-long = leb-true _ _ (six .1);
     }
 
-pub record Accepted (s : Settings) (mask : List ℕ) (llr : List ℤ) (room : Room) : Type 0 where
-  pub m-some : 1 ≤ s .m
-  pub m-le : s .m ≤ 10
-  pub ceiling-some : 1 ≤ s .ceiling
-  pub ceiling-le : s .ceiling ≤ 2047
-  pub scale-some : 1 ≤ s .scale
-  pub scale-le : s .scale ≤ 16
-  pub limit-some : 1 ≤ s .limit
-  pub limit-le : s .limit ≤ 200
-  pub criterion-le : s .criterion ≤ 3
-  pub operand : operandFits (s .ceiling) (s .criterion) (s .operand) ≡ true
-  pub mask-long : 2 ^ s .m ≤ length mask
-  pub llr-long : 2 ^ s .m ≤ length llr
-  pub room-soft : 2 ^ s .m ≤ room .soft
-  pub room-mark : 2 ^ s .m ≤ room .mark
-  pub room-coded-soft : 2 ^ s .m ≤ room .«coded_soft»
-  pub room-coded-mark : 2 ^ s .m ≤ room .«coded_mark»
-  pub room-work : 2 * (s .m + 1) * 2 ^ s .m ≤ room .work
+pub record Accepted (s : Settings) (mask : List ℕ) (llr : List ℤ) (lengths : Lengths) : Type 0 where
+  pub settings : SettingsAccepted s
+  pub slices : SlicesAccepted (s .m) (length mask) (length llr) lengths
   pub values : areBits (2 ^ s .m) mask ≡ true
   pub information : 1 ≤ informationCount mask (2 ^ s .m)
   pub within : (i : ℕ) → i < 2 ^ s .m → natAbs (getD llr i (pos 0)) ≤ s .ceiling
 
-pub accepted : (s : Settings) (mask : List ℕ) (llr : List ℤ) (room : Room) → decodeNumber s mask llr room ≡ 0 → Accepted s mask llr room
-accepted s mask llr room h =
+pub accepted : (s : Settings) (mask : List ℕ) (llr : List ℤ) (lengths : Lengths) → decodeNumber s mask llr lengths ≡ 0
+    → Accepted s mask llr lengths
+accepted s mask llr lengths h =
     let both = both-passed (settingsNumber s) _ h in
     let seven = check-passed _ 6 _ (both .1) in
     let eight = check-passed _ 7 _ (seven .1) in
     let nine = check-passed _ 8 _ (eight .1) in
     let ten = check-passed _ 9 _ (nine .1) in
-    let set = settings-accepted s (both .0) in
-    let long = slices-accepted (s .m) (length mask) (length llr) room (seven .0) in
     record {
-      m-some = set .m-some;
-      m-le = set .m-le;
-      ceiling-some = set .ceiling-some;
-      ceiling-le = set .ceiling-le;
-      scale-some = set .scale-some;
-      scale-le = set .scale-le;
-      limit-some = set .limit-some;
-      limit-le = set .limit-le;
-      criterion-le = set .criterion-le;
-      operand = set .operand;
-      mask-long = long .mask-long;
-      llr-long = long .llr-long;
-      room-soft = long .room-soft;
-      room-mark = long .room-mark;
-      room-coded-soft = long .room-coded-soft;
-      room-coded-mark = long .room-coded-mark;
-      room-work = long .room-work;
+      settings = settings-accepted s (both .0);
+      slices = slices-accepted (s .m) (length mask) (length llr) lengths (seven .0);
       values = eight .0;
       information = leb-true 1 _ (nine .0);
       within = within-at (2 ^ s .m) (s .ceiling) llr (ten .0);
     }
 
 -- the operand of criterion 2, a least size, and of criterion 3, a count of iterations
-module _ {s : Settings} {mask : List ℕ} {llr : List ℤ} {room : Room} (a : Accepted s mask llr room) where
+module _ {s : Settings} (a : SettingsAccepted s) where
   pub operand-least : s .criterion ≡ 2 → (1 ≤ s .operand) × (s .operand ≤ s .ceiling)
   operand-least e = between-passed 1 (s .ceiling) (s .operand) (rw e at (a .operand))
 
@@ -162,7 +132,7 @@ within-flipped llr llr′ (suc n) C b h =
     let size : natAbs (getD llr′ n (pos 0)) ≡ natAbs (getD llr n (pos 0)) = ap natAbs (h n (omega arith)) ∙ size-flipped (b n) (getD llr n (pos 0)) in
     rw (size, within-flipped llr llr′ n C b (λ i q. h i (omega arith)))
 
-pub number-flipped : (s : Settings) (mask : List ℕ) (llr llr′ : List ℤ) (room : Room) (b : ℕ → Bool) → length llr′ ≡ length llr
+pub number-flipped : (s : Settings) (mask : List ℕ) (llr llr′ : List ℤ) (lengths : Lengths) (b : ℕ → Bool) → length llr′ ≡ length llr
     → ((i : ℕ) → i < 2 ^ s .m → getD llr′ i (pos 0) ≡ flipped (b i) (getD llr i (pos 0)))
-    → decodeNumber s mask llr′ room ≡ decodeNumber s mask llr room
-number-flipped s mask llr llr′ room b long h = rw (long, within-flipped llr llr′ (2 ^ s .m) (s .ceiling) b h)
+    → decodeNumber s mask llr′ lengths ≡ decodeNumber s mask llr lengths
+number-flipped s mask llr llr′ lengths b long h = rw (long, within-flipped llr llr′ (2 ^ s .m) (s .ceiling) b h)

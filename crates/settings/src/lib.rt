@@ -22,7 +22,7 @@ pub struct Settings {
 }
 
 // The lengths of the slices that are lent to be written.
-pub struct Room {
+pub struct Lengths {
     pub soft: usize,
     pub mark: usize,
     pub coded_soft: usize,
@@ -88,16 +88,16 @@ fn settings_refusal(settings: Settings) -> Answer
 }
 
 // 7, of the lengths of the mask, of the LLRs and of the slices that are written.
-fn slices_fit(m: u32, mask: usize, llr: usize, room: Room) -> bool
+fn slices_fit(m: u32, mask: usize, llr: usize, lengths: Lengths) -> bool
     requires { ⌜ m ≤ 10 ⌝ }
-    ensures { λ r. ⌜ r ≡ slicesFit m mask llr room ⌝ }
+    ensures { λ r. ⌜ r ≡ slicesFit m mask llr lengths ⌝ }
 {
     let n = polar::power_of_two(m);
-    let soft = room.soft;
-    let mark = room.mark;
-    let coded_soft = room.coded_soft;
-    let coded_mark = room.coded_mark;
-    let work = room.work;
+    let soft = lengths.soft;
+    let mark = lengths.mark;
+    let coded_soft = lengths.coded_soft;
+    let coded_mark = lengths.coded_mark;
+    let work = lengths.work;
     let inputs = both(n <= mask, n <= llr);
     let outputs = both(both(inputs, n <= soft), n <= mark);
     let coded = both(both(outputs, n <= coded_soft), n <= coded_mark);
@@ -147,15 +147,15 @@ fn block_refusal(m: u32, ceiling: u32, mask: &[u8], llr: &[i16]) -> Answer
 }
 
 // Every test of the decoder. It writes nothing.
-pub fn refusal(settings: Settings, mask: &[u8], llr: &[i16], room: Room) -> Answer
-    ensures { λ r. ⌜ numberOf r ≡ decodeNumber settings (now (mask .entry)) (now (llr .entry)) room ⌝ }
+pub fn refusal(settings: Settings, mask: &[u8], llr: &[i16], lengths: Lengths) -> Answer
+    ensures { λ r. ⌜ numberOf r ≡ decodeNumber settings (now (mask .entry)) (now (llr .entry)) lengths ⌝ }
 {
     match settings_refusal(settings) {
         Answer::Refused(refusal) => Answer::Refused(refusal),
         Answer::Done => {
             let m = settings.m;
             let ceiling = settings.ceiling;
-            if slices_fit(m, mask.len(), llr.len(), room) {
+            if slices_fit(m, mask.len(), llr.len(), lengths) {
                 block_refusal(m, ceiling, mask, llr)
             } else {
                 Answer::Refused(Refusal::ShortSlice)

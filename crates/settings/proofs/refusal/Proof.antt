@@ -22,7 +22,7 @@ module _ (c : tie.After-enum-told) where
   accepted = settings-accepted (start .args .settings) passed
 
   abbrev fits : Bool
-  fits = slicesFit (start .args .settings .m) (length (now (start .args .mask))) (length (now (start .args .llr))) (start .args .room)
+  fits = slicesFit (start .args .settings .m) (length (now (start .args .mask))) (length (now (start .args .llr))) (start .args .lengths)
 
 long : (c : tie.Then1) → fits (c .before .before) ≡ true
 long c = sym (c .before .slices-fit .ensures) ∙ c .if1 .taken
@@ -42,8 +42,8 @@ slices-fit-requires c κs = accepted c .m-le
 block-refusal-requires : tie.Need-block-refusal-requires
 block-refusal-requires c κs =
     let set = accepted (c .before .before) in
-    let room = slices-accepted _ _ _ _ (long c) in
-    ((set .m-some, set .m-le, set .ceiling-le), (room .mask-long, room .llr-long))
+    let slices = slices-accepted _ _ _ _ (long c) in
+    ((set .m-some, set .m-le, set .ceiling-le), (slices .mask-long, slices .llr-long))
 
 returns : tie.Need-returns
 returns c =

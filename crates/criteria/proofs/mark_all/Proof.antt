@@ -8,10 +8,10 @@ use lib.IntN.{pos}
 use lib.ListN.{length, getD}
 use mir.Syntax.{w16}
 use mir.Val.{toZ, ofZ}
 use Rattle.criteria.specs.Marks.{markOf}
-use Rattle.decoder.proofs.Loops.{Written, written-none, written-length, written-next, written-all}
-use Rattle.decoder.proofs.mark_all.Statement.{statement}
-use Rattle.decoder.proofs.mark_all.Tie as tie
+use Rattle.calls.specs.WrittenLaws.{Written, written-none, written-length, written-next, written-all}
+use Rattle.criteria.proofs.mark_all.Statement.{statement}
+use Rattle.criteria.proofs.mark_all.Tie as tie
 
 abbrev Inv-loop : tie.InvT-loop
 Inv-loop n soft marks₀ i₀ marks i = (i ≤ n) × Written i (λ j. markOf (getD soft j (pos 0))) marks₀ marks
