@@ -15,7 +15,7 @@ use Rattle.criteria.specs.declared.Criterion.the-variants.{Never, GMatri
 use Rattle.criteria.specs.declared.Memory.{Memory}
 use Rattle.criteria.specs.Marks.{markOf}
 use Rattle.criteria.specs.Criteria.{every, sameMarks, steady, holds}
-use Rattle.criteria.specs.Memory.{steadyCount, steadyNext, keptMarks, countFor, memoryAfter, memoryNext, holdsNow}
+use Rattle.criteria.specs.Memory.{steadyCount, steadyNext, keptMarks, countFor, nothing, memoryAfter, memoryNext, holdsNow}
 use Rattle.criteria.specs.Private.{MemoryInRange}
 use Rattle.criteria.specs.EveryLaws.{every-same, every-first}
 use Rattle.criteria.specs.CriteriaLaws.{g-matrix-same, least-size-same, same-marks-same}
@@ -61,6 +61,15 @@ steady-count (suc W) same (suc (suc t)) h = go (steady-count W same (suc t) (ome
         → leb (suc W) (cond b (suc (steadyCount same (suc t))) 0) ≡ steady (suc W) same (suc (suc t))
     go ih true e = leb·suc-suc W (steadyCount same (suc t)) ∙ ih ∙ sym (kept same W (suc t) e)
     go ih false e = leb·suc-zero W ∙ sym (changed same W (suc t) e)
+
+-- ---- before the first iteration
+
+pub memory-begins : (m : ℕ) (criterion : Criterion) (mask : List ℕ) (soft codedSoft : ℕ → ℕ → ℤ)
+    → nothing ≡ memoryAfter m criterion mask soft codedSoft 0
+memory-begins m Never mask soft codedSoft = refl
+memory-begins m GMatrix mask soft codedSoft = refl
+memory-begins m (LeastSize operand) mask soft codedSoft = refl
+memory-begins m (Steady W) mask soft codedSoft = refl
 
 -- ---- one iteration more
 
@@ -117,10 +126,10 @@ module _ (m : ℕ) (criterion : Criterion) (mask : List ℕ) (soft codedSoft : �
         by-criterion (Steady W) = steady-count W kept-at (suc t) (omega arith)
 
 -- the criterion reads the first 2 ^ m places alone
-pub tried-same : (m : ℕ) (criterion : Criterion) (mask : List ℕ) (memory : Memory) (before : ℕ → ℕ) (soft soft′ : ℕ → ℤ) (coded coded′ : ℕ → ℕ)
+pub memory-next-same : (m : ℕ) (criterion : Criterion) (mask : List ℕ) (memory : Memory) (before : ℕ → ℕ) (soft soft′ : ℕ → ℤ) (coded coded′ : ℕ → ℕ)
     → ((i : ℕ) → i < 2 ^ m → soft i ≡ soft′ i)
     → memoryNext m criterion mask memory before soft coded ≡ memoryNext m criterion mask memory before soft′ coded′
-tried-same m criterion mask memory before soft soft′ coded coded′ h =
+memory-next-same m criterion mask memory before soft soft′ coded coded′ h =
     let same : sameMarks (2 ^ m) mask before (λ i. markOf (soft i)) ≡ sameMarks (2 ^ m) mask before (λ i. markOf (soft′ i))
     = same-marks-same (2 ^ m) mask before before _ _ (λ i l. refl) (λ i l. ap markOf (h i l)) in
     rw same

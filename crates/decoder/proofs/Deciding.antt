@@ -1,31 +1,27 @@
 -- What `decode` comes to: a refusal leaves everything as it was, and a run from the start is what the definitions say.
-use Prim.Native.Nat.{ℕ, zero, suc, _+_, _^_, _≤_, _<_}
-use mathlib.Core.Path.{_≡_, refl, sym, ap, _∙_}
-use mathlib.Core.Bool.{Bool, true}
+use Prim.Native.Nat.{ℕ, zero, suc, _≤_, _<_}
+use mathlib.Core.Path.{_≡_, refl, sym, ap, subst, _∙_}
+use mathlib.Core.Bool.{true}
 use mathlib.Core.List.{List}
 use native.Mathlib.Omega.{arith}
-use lib.IntN.{ℤ, pos, natAbs}
-use lib.ListN.{length, getD}
+use lib.IntN.{ℤ}
 use borrow.Author.Tests.{eqb-true}
 use Rattle.calls.specs.declared.Refusal.{Refusal}
-use Rattle.calls.specs.Memory.{unlessRefused}
 use Rattle.calls.specs.Numbers.{refusalNumber, andThen}
 use Rattle.calls.specs.NumberLaws.{refused-first, refused-keeps, between-passed}
-use Rattle.message.specs.declared.MinSum.{MinSum}
 use Rattle.message.specs.MessageLaws.{Tested}
-use Rattle.sweeps.specs.Iteration.{iterations, start}
 use Rattle.sweeps.specs.IterationLaws.{Ready, ready-start}
 use Rattle.settings.specs.declared.Settings.{Settings}
-use Rattle.settings.specs.declared.Room.{Room}
-use Rattle.settings.specs.Settings.{operandFits, decodeNumber}
+use Rattle.settings.specs.Settings.{operandFits}
 use Rattle.settings.specs.SettingsLaws.{Accepted}
+use Rattle.settings.specs.Slices.{Slices, slices, lengthsOf}
 use Rattle.decoder.specs.declared.Outcome.{Outcome}
 use Rattle.decoder.specs.declared.Outcome.the-variants.{Refused}
-use Rattle.decoder.specs.Decoder.{ruleOf, after, Ending, ending, byNumber, refused, roomOf, Decoded}
-use Rattle.decoder.specs.EndingLaws.{ending-last}
-use Rattle.decoder.specs.Working.{held, endOf, Ran, Limited}
+use Rattle.decoder.specs.Decoder.{ruleOf, Ending, ending, resultBy, refused, callNumber, outputsOf, Decoded}
+use Rattle.decoder.specs.Run.{endOf, limitOf, EndsAs}
+use Rattle.decoder.specs.RunLaws.{never-ends, startOf, run-from-start, work-from-start}
 
-by-refusal : (n : ℕ) (e : Ending) → ((next : ℕ) → andThen n next ≡ n) → refused n ≡ byNumber n e
+by-refusal : (n : ℕ) (e : Ending) → ((next : ℕ) → andThen n next ≡ n) → refused n ≡ resultBy n e
 by-refusal zero e h = let no : _≡_ {A = ℕ} 1 0 = h 1 in absurd (omega arith)
 by-refusal (suc n) e h = refl
 
@@ -35,57 +31,40 @@ operand-le C (suc zero) operand top h = omega (arith, eqb-true operand 0 h)
 operand-le C (suc (suc zero)) operand top h = omega (arith, between-passed 1 C operand h)
 operand-le C (suc (suc (suc n))) operand top h = omega (arith, between-passed 1 8 operand h)
 
--- criterion 0 holds at no iteration
-pub ran-limited : (s : Settings) (mask : List ℕ) {soft : List ℤ} {mark : List ℕ} {codedSoft : List ℤ} {codedMark : List ℕ} {w soft′ : List ℤ} {mark′ : List ℕ}
-    {codedSoft′ : List ℤ} {codedMark′ : List ℕ} {work′ : List ℤ} {r : Outcome} → s .criterion ≡ 0 → 1 ≤ s .limit
-    → Limited s soft mark codedSoft codedMark w soft′ mark′ codedSoft′ codedMark′ work′ r
-    → Ran s mask soft mark codedSoft codedMark w soft′ mark′ codedSoft′ codedMark′ work′ r
-ran-limited s mask {w = w} never some limited =
-    let e : endOf s mask w ≡ record { iteration = s .limit; reason = 2 }
-    = ending-last (held s mask w) (s .limit) some (λ j p q. rw never) in
-    record {
-      answer = limited .answer ∙ rw e;
-      work-is = limited .work-is ∙ rw e;
-      soft-is = limited .soft-is;
-      mark-is = limited .mark-is;
-      coded-soft-is = limited .coded-soft-is;
-      coded-mark-is = limited .coded-mark-is;
-    }
-
-module _ (s : Settings) (mask : List ℕ) (llr soft : List ℤ) (mark : List ℕ) (codedSoft : List ℤ) (codedMark : List ℕ) (work : List ℤ) where
-  abbrev number : ℕ
-  number = decodeNumber s mask llr (roomOf soft mark codedSoft codedMark work)
-
-  pub decoded-refused : (r : Refusal) → number ≡ refusalNumber r
-      → Decoded s mask llr soft mark codedSoft codedMark work soft mark codedSoft codedMark work (Refused r)
+module _ (s : Settings) (mask : List ℕ) (llr : List ℤ) (lent : Slices) where
+  pub decoded-refused : (r : Refusal) → callNumber s mask llr lent ≡ refusalNumber r → Decoded s mask llr lent lent (Refused r)
   decoded-refused r is = record {
-    answer = rw is (by-refusal (refusalNumber r) (ending s mask llr work) (refused-first r));
-    soft-is = rw is (sym (refused-keeps r _ soft));
-    mark-is = rw is (sym (refused-keeps r _ mark));
-    coded-soft-is = rw is (sym (refused-keeps r _ codedSoft));
-    coded-mark-is = rw is (sym (refused-keeps r _ codedMark));
-    work-is = rw is (sym (refused-keeps r _ work));
+    answer = rw is (by-refusal (refusalNumber r) (ending s mask llr (lent .work)) (refused-first r));
+    slices = rw is (sym (refused-keeps r _ lent));
   }
 
-  module _ (ok : number ≡ 0) (accepted : Accepted s mask llr (roomOf soft mark codedSoft codedMark work)) where
-    tested : Tested (ruleOf s)
-    tested = record { some = accepted .ceiling-some; ceiling-le = accepted .ceiling-le; scale-some = accepted .scale-some; scale-le = accepted .scale-le }
+  module _ (ok : callNumber s mask llr lent ≡ 0) where
+    pub begun-valid : Accepted s mask llr (lengthsOf lent) → (w : List ℤ) → w ≡ startOf s mask llr (lent .work) → Ready (ruleOf s) (s .m) w
+    begun-valid accepted w is =
+        let a = accepted .settings in
+        let tested : Tested (ruleOf s) = record {
+          some = a .ceiling-some;
+          ceiling-le = a .ceiling-le;
+          scale-some = a .scale-some;
+          scale-le = a .scale-le;
+        } in
+        rw is (ready-start {rule = ruleOf s} mask llr (lent .work) tested (a .m-some) (a .m-le) (accepted .slices .work-long) (accepted .within))
 
-    pub begun-ready : (w : List ℤ) → w ≡ start (s .m) (s .ceiling) mask llr work → Ready (ruleOf s) (s .m) w
-    begun-ready w is =
-        rw is (ready-start {rule = ruleOf s} mask llr work tested (accepted .m-some) (accepted .m-le) (accepted .room-work) (accepted .within))
-
-    pub decoded-run : (w soft′ : List ℤ) (mark′ : List ℕ) (codedSoft′ : List ℤ) (codedMark′ : List ℕ) (work′ : List ℤ) (r : Outcome)
-        → w ≡ start (s .m) (s .ceiling) mask llr work → Ran s mask soft mark codedSoft codedMark w soft′ mark′ codedSoft′ codedMark′ work′ r
-        → Decoded s mask llr soft mark codedSoft codedMark work soft′ mark′ codedSoft′ codedMark′ work′ r
-    unfolding ending after
-    decoded-run w soft′ mark′ codedSoft′ codedMark′ work′ r is ran =
-        let last : work′ ≡ after s mask llr work (ending s mask llr work .iteration) = ran .work-is ∙ rw is in
+    -- a run that begins where the start has been written
+    pub decoded-run : (w : List ℤ) (x : Slices) (r : Outcome) → w ≡ startOf s mask llr (lent .work)
+        → EndsAs s mask (endOf s mask w) (slices (lent .soft) (lent .mark) (lent .codedSoft) (lent .codedMark) w) x r → Decoded s mask llr lent x r
+    decoded-run w x r is ends =
+        let e : endOf s mask w ≡ ending s mask llr (lent .work) = rw is (sym (run-from-start s mask llr (lent .work))) in
         record {
-          answer = ran .answer ∙ rw (is, ok);
-          soft-is = ran .soft-is ∙ rw (last, ok);
-          mark-is = ran .mark-is ∙ rw (last, ok);
-          coded-soft-is = ran .coded-soft-is ∙ rw (last, ok);
-          coded-mark-is = ran .coded-mark-is ∙ rw (last, ok);
-          work-is = last ∙ rw ok;
+          answer = ends .answer ∙ rw (e, ok);
+          slices =
+              ends .slices
+              ∙ rw (e, is, ok) (ap (λ (v : List ℤ). outputsOf s mask v lent) (sym (work-from-start s mask llr (lent .work) _)));
         }
+
+    -- the same under criterion 0
+    pub decoded-limit : (w : List ℤ) (x : Slices) (r : Outcome) → w ≡ startOf s mask llr (lent .work) → s .criterion ≡ 0 → 1 ≤ s .limit
+        → EndsAs s mask (limitOf s) (slices (lent .soft) (lent .mark) (lent .codedSoft) (lent .codedMark) w) x r → Decoded s mask llr lent x r
+    decoded-limit w x r is never some ends =
+        let all = slices (lent .soft) (lent .mark) (lent .codedSoft) (lent .codedMark) w in
+        decoded-run w x r is (subst (λ (e : Ending). EndsAs s mask e all x r) (sym (never-ends s mask w never some)) ends)

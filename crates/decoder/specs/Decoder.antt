@@ -4,7 +4,7 @@ use mathlib.Core.Path.{_≡_}
 use mathlib.Core.Bool.{Bool, true, false, cond}
 use mathlib.Core.List.{List}
 use lib.IntN.{ℤ}
-use lib.ListN.{length}
+use lib.ListN.{getD}
 use Rattle.calls.specs.Numbers.{refusalNumber}
 use Rattle.calls.specs.Memory.{overwrite, unlessRefused}
 use Rattle.message.specs.declared.MinSum.{MinSum}
@@ -16,8 +16,8 @@ use Rattle.criteria.specs.declared.Criterion.the-variants.{Never, GMatrix, Leas
 use Rattle.criteria.specs.Criteria.{holds}
 use Rattle.criteria.specs.Marks.{markOf}
 use Rattle.settings.specs.declared.Settings.{Settings}
-use Rattle.settings.specs.declared.Room.{Room}
 use Rattle.settings.specs.Settings.{decodeNumber}
+use Rattle.settings.specs.Slices.{Slices, lengthsOf}
 use Rattle.decoder.specs.declared.Reason.{Reason}
 use Rattle.decoder.specs.declared.Reason.the-variants as reason
 use Rattle.decoder.specs.declared.Outcome.{Outcome}
@@ -25,18 +25,23 @@ use Rattle.decoder.specs.declared.Outcome.the-variants.{Ended, Refused}
 
 -- ---- outputs: the soft output of position i is L(0, i) + R(0, i), the coded soft output L(m, i) + R(m, i), both cut to the ceiling
 
+-- the settings of the message arithmetic
 abbrev pub ruleOf : Settings → MinSum
 ruleOf s = record { ceiling = s .ceiling; scale = s .scale }
 
-abbrev pub softAt : Settings → List ℤ → ℕ → ℤ
-softAt s w i = add (ruleOf s) (L (s .m) w 0 i) (R (s .m) w 0 i)
+-- what a soft output is: by the position's mask byte, which makes no difference yet, from the messages of both directions
+abbrev pub softOf : MinSum → ℕ → ℤ → ℤ → ℤ
+softOf rule kind left right = add rule left right
+
+abbrev pub softAt : Settings → List ℕ → List ℤ → ℕ → ℤ
+softAt s mask w i = softOf (ruleOf s) (getD mask i 0) (L (s .m) w 0 i) (R (s .m) w 0 i)
 
 abbrev pub codedSoftAt : Settings → List ℤ → ℕ → ℤ
 codedSoftAt s w i = add (ruleOf s) (L (s .m) w (s .m) i) (R (s .m) w (s .m) i)
 
 -- their marks
-abbrev pub markAt : Settings → List ℤ → ℕ → ℕ
-markAt s w i = markOf (softAt s w i)
+abbrev pub markAt : Settings → List ℕ → List ℤ → ℕ → ℕ
+markAt s mask w i = markOf (softAt s mask w i)
 
 abbrev pub codedMarkAt : Settings → List ℤ → ℕ → ℕ
 codedMarkAt s w i = markOf (codedSoftAt s w i)
@@ -44,11 +49,14 @@ codedMarkAt s w i = markOf (codedSoftAt s w i)
 -- ---- endings
 
 -- criteria by their numbers; the operand of 0 and 1 is 0
-abbrev pub criterionOf : ℕ → ℕ → Criterion
-criterionOf zero operand = Never
-criterionOf (suc zero) operand = GMatrix
-criterionOf (suc (suc zero)) operand = LeastSize operand
-criterionOf (suc (suc (suc n))) operand = Steady operand
+abbrev pub criterionBy : ℕ → Settings → Criterion
+criterionBy zero s = Never
+criterionBy (suc zero) s = GMatrix
+criterionBy (suc (suc zero)) s = LeastSize (s .operand)
+criterionBy (suc (suc (suc n))) s = Steady (s .operand)
+
+abbrev pub criterionOf : Settings → Criterion
+criterionOf s = criterionBy (s .criterion) s
 
 -- the workspace after t iterations
 unfoldable pub after : Settings → List ℕ → List ℤ → List ℤ → ℕ → List ℤ
@@ -71,8 +79,8 @@ endingOf held T = endingFrom held 1 (T - 1)
 unfoldable pub ending : Settings → List ℕ → List ℤ → List ℤ → Ending
 ending s mask llr old =
     endingOf
-    (holds (s .m) (criterionOf (s .criterion) (s .operand)) mask
-    (λ t. softAt s (after s mask llr old t))
+    (holds (s .m) (criterionOf s) mask
+    (λ t. softAt s mask (after s mask llr old t))
     (λ t. codedSoftAt s (after s mask llr old t)))
     (s .limit)
 
@@ -94,44 +102,36 @@ abbrev pub resultOf : Outcome → Result
 resultOf (Ended t reason) = ended t (reasonNumber reason)
 resultOf (Refused r) = refused (refusalNumber r)
 
-abbrev pub byNumber : ℕ → Ending → Result
-byNumber zero e = ended (e .iteration) (e .reason)
-byNumber (suc number) e = refused (suc number)
+abbrev pub resultBy : ℕ → Ending → Result
+resultBy zero e = ended (e .iteration) (e .reason)
+resultBy (suc number) e = refused (suc number)
 
-module _ (s : Settings) (mask : List ℕ) (llr : List ℤ) (room : Room) (work : List ℤ) where
+-- ---- what the lent slices hold afterwards: the outputs of a workspace in their first N elements, and the workspace
+
+abbrev pub outputsOf : Settings → List ℕ → List ℤ → Slices → Slices
+outputsOf s mask w old =
+    record {
+      soft = overwrite (2 ^ s .m) (softAt s mask w) (old .soft);
+      mark = overwrite (2 ^ s .m) (markAt s mask w) (old .mark);
+      codedSoft = overwrite (2 ^ s .m) (codedSoftAt s w) (old .codedSoft);
+      codedMark = overwrite (2 ^ s .m) (codedMarkAt s w) (old .codedMark);
+      work = w;
+    }
+
+-- ---- a call, from what it is handed: settings, mask, LLRs, and the slices as they were lent
+
+module _ (s : Settings) (mask : List ℕ) (llr : List ℤ) (lent : Slices) where
+  abbrev pub callNumber : ℕ
+  callNumber = decodeNumber s mask llr (lengthsOf lent)
+
   abbrev pub decodeResult : Result
-  decodeResult = byNumber (decodeNumber s mask llr room) (ending s mask llr work)
+  decodeResult = resultBy callNumber (ending s mask llr (lent .work))
 
-  -- ---- what the lent slices hold afterwards: the first N elements of the outputs, and the workspace
+  abbrev pub decodeSlices : Slices
+  decodeSlices = unlessRefused callNumber (outputsOf s mask (final s mask llr (lent .work)) lent) lent
 
-  abbrev pub decodeSoft : List ℤ → List ℤ
-  decodeSoft old = unlessRefused (decodeNumber s mask llr room) (overwrite (2 ^ s .m) (softAt s (final s mask llr work)) old) old
+-- ---- the promise of `decode`: its answer and the lent slices afterwards, as functions of what came in
 
-  abbrev pub decodeMark : List ℕ → List ℕ
-  decodeMark old =
-      unlessRefused (decodeNumber s mask llr room) (overwrite (2 ^ s .m) (markAt s (final s mask llr work)) old) old
-
-  abbrev pub decodeCodedSoft : List ℤ → List ℤ
-  decodeCodedSoft old = unlessRefused (decodeNumber s mask llr room) (overwrite (2 ^ s .m) (codedSoftAt s (final s mask llr work)) old) old
-
-  abbrev pub decodeCodedMark : List ℕ → List ℕ
-  decodeCodedMark old =
-      unlessRefused (decodeNumber s mask llr room) (overwrite (2 ^ s .m) (codedMarkAt s (final s mask llr work)) old) old
-
-  abbrev pub decodeWork : List ℤ
-  decodeWork = unlessRefused (decodeNumber s mask llr room) (final s mask llr work) work
-
--- ---- the promise of `decode`: its answer, and each lent slice afterwards, as functions of what came in
-
-abbrev pub roomOf : List ℤ → List ℕ → List ℤ → List ℕ → List ℤ → Room
-roomOf soft mark codedSoft codedMark work =
-    record { soft = length soft; mark = length mark; «coded_soft» = length codedSoft; «coded_mark» = length codedMark; work = length work }
-
-pub record Decoded (s : Settings) (mask : List ℕ) (llr soft : List ℤ) (mark : List ℕ) (codedSoft : List ℤ) (codedMark : List ℕ) (work soft′ : List ℤ)
-    (mark′ : List ℕ) (codedSoft′ : List ℤ) (codedMark′ : List ℕ) (work′ : List ℤ) (r : Outcome) : Type 0 where
-  pub answer : resultOf r ≡ decodeResult s mask llr (roomOf soft mark codedSoft codedMark work) work
-  pub soft-is : soft′ ≡ decodeSoft s mask llr (roomOf soft mark codedSoft codedMark work) work soft
-  pub mark-is : mark′ ≡ decodeMark s mask llr (roomOf soft mark codedSoft codedMark work) work mark
-  pub coded-soft-is : codedSoft′ ≡ decodeCodedSoft s mask llr (roomOf soft mark codedSoft codedMark work) work codedSoft
-  pub coded-mark-is : codedMark′ ≡ decodeCodedMark s mask llr (roomOf soft mark codedSoft codedMark work) work codedMark
-  pub work-is : work′ ≡ decodeWork s mask llr (roomOf soft mark codedSoft codedMark work) work
+pub record Decoded (s : Settings) (mask : List ℕ) (llr : List ℤ) (before after : Slices) (r : Outcome) : Type 0 where
+  pub answer : resultOf r ≡ decodeResult s mask llr before
+  pub slices : after ≡ decodeSlices s mask llr before

@@ -8,14 +8,14 @@ use lib.Dec.{lit≤}
 use lib.IntN.{ℤ}
 use Rattle.calls.specs.Numbers.{check, andThen}
 use Rattle.settings.specs.declared.Settings.{Settings}
-use Rattle.settings.specs.declared.Room.{Room}
-use Rattle.settings.specs.Settings.{settingsNumber, decodeNumber}
+use Rattle.settings.specs.Settings.{largestLimit, settingsNumber}
+use Rattle.settings.specs.Slices.{Slices, lengthsOf}
 use Rattle.settings.specs.SettingsLaws.{accepted}
-use Rattle.decoder.specs.Decoder.{Ending, endingFrom, ending, Result, refused, ended, byNumber, decodeResult}
+use Rattle.decoder.specs.Decoder.{Ending, endingFrom, ending, Result, refused, ended, resultBy, callNumber, decodeResult}
 
 abbrev pub DecoderAnswer : Result → Type 0
 DecoderAnswer (refused number) = (1 ≤ number) × (number ≤ 10)
-DecoderAnswer (ended iteration reason) = (1 ≤ iteration) × (iteration ≤ 200) × (1 ≤ reason) × (reason ≤ 2)
+DecoderAnswer (ended iteration reason) = (1 ≤ iteration) × (iteration ≤ largestLimit) × (1 ≤ reason) × (reason ≤ 2)
 
 -- ---- endings
 
@@ -51,21 +51,21 @@ then-le : {most : ℕ} (first next : ℕ) → first ≤ most → next ≤ most �
 then-le zero next h k = k
 then-le (suc number) next h k = h
 
-by-number : (number : ℕ) (e : Ending) → number ≤ 10 → (number ≡ 0 → EndsWithin 1 200 e) → DecoderAnswer (byNumber number e)
+by-number : (number : ℕ) (e : Ending) → number ≤ 10 → (number ≡ 0 → EndsWithin 1 largestLimit e) → DecoderAnswer (resultBy number e)
 by-number zero e h w = let r = w refl in (r .low-le, r .le-high, r .reason-some, r .reason-le)
 by-number (suc number) e h w = (omega arith, h)
 
-module _ (s : Settings) (mask : List ℕ) (llr : List ℤ) (room : Room) (work : List ℤ) where
-  number-le : decodeNumber s mask llr room ≤ 10
+module _ (s : Settings) (mask : List ℕ) (llr : List ℤ) (lent : Slices) where
+  number-le : callNumber s mask llr lent ≤ 10
   number-le =
       then-le (settingsNumber s) _ (search (check-le, lit≤) depth 9) (search (check-le, lit≤) depth 9)
 
-  ending-within : decodeNumber s mask llr room ≡ 0 → EndsWithin 1 200 (ending s mask llr work)
+  ending-within : callNumber s mask llr lent ≡ 0 → EndsWithin 1 largestLimit (ending s mask llr (lent .work))
   unfolding ending
   ending-within h =
-      let a = accepted s mask llr room h in
+      let a = accepted s mask llr (lengthsOf lent) h .settings in
       let e = ending-from _ (s .limit - 1) 1 in
       here _ _ (e .low-le) (omega (arith, a .limit-some, a .limit-le, e .le-high)) (e .reason-some) (e .reason-le)
 
-  pub decoder-answer : DecoderAnswer (decodeResult s mask llr room work)
-  decoder-answer = by-number (decodeNumber s mask llr room) (ending s mask llr work) number-le ending-within
+  pub decoder-answer : DecoderAnswer (decodeResult s mask llr lent)
+  decoder-answer = by-number (callNumber s mask llr lent) (ending s mask llr (lent .work)) number-le ending-within

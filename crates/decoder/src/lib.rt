@@ -2,24 +2,26 @@
 // It sees the promises of `settings`, `sweeps`, `criteria` and `message`. It promises that the answer, the four outputs and the workspace equal
 // document 01's definitions, that nothing else is written, and nothing at all after a refusal.
 ghost use mathlib.Core.Path.{_≡_};
-ghost use Prim.Native.Nat.{_+_, _*_, _<_, _≤_, _^_};
-ghost use lib.IntN.{pos, natAbs};
-ghost use lib.ListN.{length, getD};
+ghost use Prim.Native.Nat.{_<_, _≤_, _^_};
+ghost use lib.IntN.{natAbs};
+ghost use lib.ListN.{length};
 ghost use Rattle.calls.specs.Memory.{overwrite};
-ghost use Rattle.message.specs.Message.{add};
 ghost use Rattle.message.specs.MessageLaws.{Tested};
-ghost use Rattle.sweeps.specs.Iteration.{iterations};
+ghost use Rattle.sweeps.specs.Iteration.{iteration, iterations};
 ghost use Rattle.sweeps.specs.IterationLaws.{Ready};
-ghost use Rattle.criteria.specs.Marks.{markOf};
-ghost use Rattle.criteria.specs.Working.{SoftValues, MarkBytes};
-ghost use Rattle.decoder.specs.Decoder.{reasonNumber, ruleOf, softAt, markAt, codedSoftAt, codedMarkAt, criterionOf, Decoded};
-ghost use Rattle.decoder.specs.Working.{rowSum, rowMark, Advanced, Judged, Stepped, Ran, Limited};
+ghost use Rattle.criteria.specs.Private.{MemoryInRange};
+ghost use Rattle.settings.specs.Settings.{largestLimit};
+ghost use Rattle.settings.specs.Slices.{slices};
+ghost use Rattle.settings.specs.SlicesLaws.{OutputsFit};
+ghost use Rattle.decoder.specs.Decoder.{reasonNumber, ruleOf, softOf, softAt, markAt, codedSoftAt, codedMarkAt, criterionOf, outputsOf, Decoded};
+ghost use Rattle.decoder.specs.Run.{OneIteration, limitOf, endOf, EndsAs};
 use calls::Answer;
 use calls::Refusal;
 use criteria::Criterion;
 use criteria::Memory;
+use criteria::Progress;
 use message::MinSum;
-use settings::Room;
+use settings::Lengths;
 use settings::Settings;
 
 // Why the decoder ended: the criterion held, or the limit was reached.
@@ -57,10 +59,13 @@ fn rule_of(settings: Settings) -> MinSum
     }
 }
 
-fn criterion_of(criterion: u32, operand: u32) -> Criterion
-    requires { ⌜ operand ≤ 2047 ⌝ }
-    ensures { λ r. ⌜ r ≡ criterionOf criterion operand ⌝ }
+// The criterion that the settings name, with its operand.
+fn criterion_of(settings: Settings) -> Criterion
+    requires { ⌜ settings .operand ≤ 2047 ⌝ }
+    ensures { λ r. ⌜ r ≡ criterionOf settings ⌝ }
 {
+    let criterion = settings.criterion;
+    let operand = settings.operand;
     if criterion == 0 {
         return Criterion::Never;
     }
@@ -73,58 +78,79 @@ fn criterion_of(criterion: u32, operand: u32) -> Criterion
     Criterion::Steady(operand)
 }
 
-// The cut sums of two rows of the workspace: soft outputs of column 0, coded soft outputs of column m.
-fn sum_rows(rule: MinSum, m: u32, left: usize, right: usize, work: &[i16], soft: &mut [i16])
-    requires { ⌜ Ready rule m (now work) ⌝ }
-    requires { ⌜ (left < 2 * (m + 1)) × (right < 2 * (m + 1)) × (2 ^ m ≤ length (now soft)) ⌝ }
-    ensures { λ _. ⌜ now (soft .exit) ≡ overwrite (2 ^ m) (rowSum rule m left right (now (work .entry))) (now (soft .entry)) ⌝ }
+// The soft output of a position from its mask byte and the messages of both directions. The mask byte makes no difference yet.
+fn soft_output(rule: MinSum, _kind: u8, left: i16, right: i16) -> i16
+    requires { ⌜ Tested rule ⌝ }
+    requires { ⌜ (natAbs left ≤ rule .ceiling) × (natAbs right ≤ rule .ceiling) ⌝ }
+    ensures { λ r. ⌜ r ≡ softOf rule «_kind» left right ⌝ }
 {
+    message::add_cut(rule, left, right)
+}
+
+// The soft outputs of a workspace, from column 0.
+fn soft_outputs(settings: Settings, mask: &[u8], work: &[i16], soft: &mut [i16])
+    requires { ⌜ Ready (ruleOf settings) (settings .m) (now work) ⌝ }
+    requires { ⌜ (2 ^ settings .m ≤ length (now mask)) × (2 ^ settings .m ≤ length (now soft)) ⌝ }
+    ensures { λ _. ⌜ now (soft .exit)
+        ≡ overwrite (2 ^ settings .m) (softAt settings (now (mask .entry)) (now (work .entry))) (now (soft .entry)) ⌝ }
+{
+    let rule = rule_of(settings);
+    let m = settings.m;
     let n = polar::power_of_two(m);
+    let right = (m as usize + 1) * n;
     let mut i = 0;
     while i < n {
-        soft[i] = message::add_cut(
+        soft[i] = soft_output(
             rule,
-            sweeps::get(work, left * n, i),
-            sweeps::get(work, right * n, i),
+            mask[i],
+            sweeps::get(work, 0, i),
+            sweeps::get(work, right, i),
         );
         i += 1;
     }
 }
 
-// The marks of the first n soft values.
-fn mark_all(n: usize, soft: &[i16], marks: &mut [u8])
-    requires { ⌜ (n ≤ length (now soft)) × (n ≤ length (now marks)) ⌝ }
-    ensures { λ _. ⌜ now (marks .exit) ≡ overwrite n (λ i. markOf (getD (now (soft .entry)) i (pos 0))) (now (marks .entry)) ⌝ }
+// The coded soft outputs of a workspace, from column m.
+fn coded_soft_outputs(settings: Settings, work: &[i16], coded_soft: &mut [i16])
+    requires { ⌜ Ready (ruleOf settings) (settings .m) (now work) ⌝ }
+    requires { ⌜ 2 ^ settings .m ≤ length (now «coded_soft») ⌝ }
+    ensures { λ _. ⌜ now («coded_soft» .exit)
+        ≡ overwrite (2 ^ settings .m) (codedSoftAt settings (now (work .entry))) (now («coded_soft» .entry)) ⌝ }
 {
+    let rule = rule_of(settings);
+    let m = settings.m;
+    let n = polar::power_of_two(m);
+    let left = m as usize * n;
+    let right = (m as usize + 1 + m as usize) * n;
     let mut i = 0;
     while i < n {
-        marks[i] = criteria::mark(soft[i]);
+        coded_soft[i] = message::add_cut(
+            rule,
+            sweeps::get(work, left, i),
+            sweeps::get(work, right, i),
+        );
         i += 1;
     }
 }
 
-// The soft values of a column and their marks.
-fn column_outputs(
-    rule: MinSum,
-    m: u32,
-    left: usize,
-    right: usize,
-    work: &[i16],
-    soft: &mut [i16],
-    marks: &mut [u8],
-)
-    requires { ⌜ Ready rule m (now work) ⌝ }
-    requires { ⌜ (left < 2 * (m + 1)) × (right < 2 * (m + 1)) × (2 ^ m ≤ length (now soft)) × (2 ^ m ≤ length (now marks)) ⌝ }
-    ensures { λ _. ⌜ now (soft .exit) ≡ overwrite (2 ^ m) (rowSum rule m left right (now (work .entry))) (now (soft .entry)) ⌝ }
-    ensures { λ _. ⌜ now (marks .exit) ≡ overwrite (2 ^ m) (rowMark rule m left right (now (work .entry))) (now (marks .entry)) ⌝ }
+// The coded soft outputs of a workspace and their marks.
+fn coded_outputs(settings: Settings, work: &[i16], coded_soft: &mut [i16], coded_mark: &mut [u8])
+    requires { ⌜ Ready (ruleOf settings) (settings .m) (now work) ⌝ }
+    requires { ⌜ (2 ^ settings .m ≤ length (now «coded_soft»)) × (2 ^ settings .m ≤ length (now «coded_mark»)) ⌝ }
+    ensures { λ _. ⌜ now («coded_soft» .exit)
+        ≡ overwrite (2 ^ settings .m) (codedSoftAt settings (now (work .entry))) (now («coded_soft» .entry)) ⌝ }
+    ensures { λ _. ⌜ now («coded_mark» .exit)
+        ≡ overwrite (2 ^ settings .m) (codedMarkAt settings (now (work .entry))) (now («coded_mark» .entry)) ⌝ }
 {
-    sum_rows(rule, m, left, right, work, soft);
-    mark_all(polar::power_of_two(m), soft, marks);
+    let m = settings.m;
+    coded_soft_outputs(settings, work, coded_soft);
+    criteria::mark_all(polar::power_of_two(m), coded_soft, coded_mark);
 }
 
 // The four outputs of a workspace.
 pub fn outputs(
     settings: Settings,
+    mask: &[u8],
     work: &[i16],
     soft: &mut [i16],
     mark: &mut [u8],
@@ -132,86 +158,48 @@ pub fn outputs(
     coded_mark: &mut [u8],
 )
     requires { ⌜ Ready (ruleOf settings) (settings .m) (now work) ⌝ }
-    requires { ⌜ (2 ^ settings .m ≤ length (now soft)) × (2 ^ settings .m ≤ length (now mark)) × (2 ^ settings .m ≤ length (now «coded_soft»)) × (2 ^ settings .m ≤ length (now «coded_mark»)) ⌝ }
-    ensures { λ _. ⌜ now (soft .exit) ≡ overwrite (2 ^ settings .m) (softAt settings (now (work .entry))) (now (soft .entry)) ⌝ }
-    ensures { λ _. ⌜ now (mark .exit) ≡ overwrite (2 ^ settings .m) (markAt settings (now (work .entry))) (now (mark .entry)) ⌝ }
-    ensures { λ _. ⌜ now («coded_soft» .exit) ≡ overwrite (2 ^ settings .m) (codedSoftAt settings (now (work .entry))) (now («coded_soft» .entry)) ⌝ }
-    ensures { λ _. ⌜ now («coded_mark» .exit) ≡ overwrite (2 ^ settings .m) (codedMarkAt settings (now (work .entry))) (now («coded_mark» .entry)) ⌝ }
+    requires { ⌜ 2 ^ settings .m ≤ length (now mask) ⌝ }
+    requires { ⌜ OutputsFit (2 ^ settings .m) (slices (now soft) (now mark) (now «coded_soft») (now «coded_mark») (now work)) ⌝ }
+    ensures { λ _. ⌜ slices (now (soft .exit)) (now (mark .exit)) (now («coded_soft» .exit)) (now («coded_mark» .exit))
+        (now (work .entry))
+        ≡ outputsOf settings (now (mask .entry)) (now (work .entry))
+        (slices (now (soft .entry)) (now (mark .entry)) (now («coded_soft» .entry)) (now («coded_mark» .entry))
+        (now (work .entry))) ⌝ }
 {
-    let rule = rule_of(settings);
     let m = settings.m;
-    let columns = m as usize;
-    column_outputs(rule, m, 0, columns + 1, work, soft, mark);
-    column_outputs(
-        rule,
-        m,
-        columns,
-        columns + 1 + columns,
-        work,
-        coded_soft,
-        coded_mark,
-    );
+    soft_outputs(settings, mask, work, soft);
+    criteria::mark_all(polar::power_of_two(m), soft, mark);
+    coded_outputs(settings, work, coded_soft, coded_mark);
 }
 
-// What one step leaves beside the slices: what the criterion remembers, and whether it holds.
-pub struct Progress {
-    pub memory: Memory,
-    pub holds: bool,
-}
-
-// One iteration, its soft outputs and marks. It answers whether the marks at the information positions are those that `mark` held.
-fn advance(
-    rule: MinSum,
-    m: u32,
+// One iteration, its soft outputs, and its coded outputs.
+fn iterate(
+    settings: Settings,
     mask: &[u8],
     soft: &mut [i16],
-    mark: &mut [u8],
+    coded_soft: &mut [i16],
+    coded_mark: &mut [u8],
     work: &mut [i16],
-) -> bool
-    requires { ⌜ Ready rule m (now work) ⌝ }
-    requires { ⌜ (2 ^ m ≤ length (now mask)) × (2 ^ m ≤ length (now soft)) × (2 ^ m ≤ length (now mark)) ⌝ }
-    ensures { λ r. ⌜ Advanced rule m (now (mask .entry)) (now (soft .entry)) (now (mark .entry)) (now (work .entry)) (now (soft .exit)) (now (mark .exit)) (now (work .exit)) r ⌝ }
-{
-    let n = polar::power_of_two(m);
-    sweeps::iterate(rule, m, work);
-    sum_rows(rule, m, 0, m as usize + 1, work, soft);
-    let same = criteria::same_marks(mask, mark, soft, n);
-    mark_all(n, soft, mark);
-    same
-}
-
-// What the criterion says of the outputs of an iteration, and what it remembers.
-fn judge(
-    settings: Settings,
-    memory: Memory,
-    same: bool,
-    soft: &[i16],
-    mark: &[u8],
-    coded_mark: &[u8],
-) -> Progress
-    requires { ⌜ (settings .m ≤ 10) × (settings .operand ≤ 2047) × (memory .iterations < 1000) × (memory .steady ≤ memory .iterations) ⌝ }
-    requires { ⌜ SoftValues (2 ^ settings .m) (now soft) × MarkBytes (2 ^ settings .m) (now mark) × MarkBytes (2 ^ settings .m) (now «coded_mark») ⌝ }
-    ensures { λ r. ⌜ Judged settings memory same (now (soft .entry)) (now (mark .entry)) (now («coded_mark» .entry)) r ⌝ }
+)
+    requires { ⌜ Ready (ruleOf settings) (settings .m) (now work) ⌝ }
+    requires { ⌜ (2 ^ settings .m ≤ length (now mask)) × (2 ^ settings .m ≤ length (now soft))
+        × (2 ^ settings .m ≤ length (now «coded_soft»)) × (2 ^ settings .m ≤ length (now «coded_mark»)) ⌝ }
+    ensures { λ _. ⌜ now (work .exit) ≡ iteration (ruleOf settings) (settings .m) (now (work .entry)) ⌝ }
+    ensures { λ _. ⌜ now (soft .exit)
+        ≡ overwrite (2 ^ settings .m) (softAt settings (now (mask .entry)) (now (work .exit))) (now (soft .entry)) ⌝ }
+    ensures { λ _. ⌜ now («coded_soft» .exit)
+        ≡ overwrite (2 ^ settings .m) (codedSoftAt settings (now (work .exit))) (now («coded_soft» .entry)) ⌝ }
+    ensures { λ _. ⌜ now («coded_mark» .exit)
+        ≡ overwrite (2 ^ settings .m) (codedMarkAt settings (now (work .exit))) (now («coded_mark» .entry)) ⌝ }
 {
     let m = settings.m;
-    let criterion = settings.criterion;
-    let operand = settings.operand;
-    let next = memory.after(same);
-    let holds = criteria::holds_now(
-        m,
-        criterion_of(criterion, operand),
-        next,
-        soft,
-        mark,
-        coded_mark,
-    );
-    Progress {
-        memory: next,
-        holds,
-    }
+    sweeps::iterate(rule_of(settings), m, work);
+    soft_outputs(settings, mask, work, soft);
+    coded_outputs(settings, work, coded_soft, coded_mark);
 }
 
-// One iteration and the criterion. Unless this is the first iteration, `mark` holds the marks of the one before.
+// One iteration, its outputs, and the criterion. Unless this is the first iteration, `mark` holds the marks of the workspace as it
+// stands, which are those of the iteration before: `outputs` writes them, so that who makes one step at a time keeps the workspace alone.
 pub fn step(
     settings: Settings,
     memory: Memory,
@@ -223,24 +211,27 @@ pub fn step(
     work: &mut [i16],
 ) -> Progress
     requires { ⌜ Ready (ruleOf settings) (settings .m) (now work) ⌝ }
-    requires { ⌜ (settings .operand ≤ 2047) × (memory .iterations < 1000) × (memory .steady ≤ memory .iterations) ⌝ }
-    requires { ⌜ (2 ^ settings .m ≤ length (now mask)) × (2 ^ settings .m ≤ length (now soft)) × (2 ^ settings .m ≤ length (now mark)) × (2 ^ settings .m ≤ length (now «coded_soft»)) × (2 ^ settings .m ≤ length (now «coded_mark»)) ⌝ }
-    ensures { λ r. ⌜ Stepped settings memory (now (mask .entry)) (now (soft .entry)) (now (mark .entry)) (now («coded_soft» .entry)) (now («coded_mark» .entry)) (now (work .entry)) (now (soft .exit)) (now (mark .exit)) (now («coded_soft» .exit)) (now («coded_mark» .exit)) (now (work .exit)) r ⌝ }
+    requires { ⌜ (settings .operand ≤ 2047) × MemoryInRange memory ⌝ }
+    requires { ⌜ 2 ^ settings .m ≤ length (now mask) ⌝ }
+    requires { ⌜ OutputsFit (2 ^ settings .m) (slices (now soft) (now mark) (now «coded_soft») (now «coded_mark») (now work)) ⌝ }
+    ensures { λ r. ⌜ OneIteration settings memory (now (mask .entry))
+        (slices (now (soft .entry)) (now (mark .entry))
+        (now («coded_soft» .entry)) (now («coded_mark» .entry)) (now (work .entry)))
+        (slices (now (soft .exit)) (now (mark .exit))
+        (now («coded_soft» .exit)) (now («coded_mark» .exit)) (now (work .exit)))
+        r ⌝ }
 {
-    let rule = rule_of(settings);
     let m = settings.m;
-    let columns = m as usize;
-    let same = advance(rule, m, mask, soft, mark, work);
-    column_outputs(
-        rule,
+    iterate(settings, mask, soft, coded_soft, coded_mark, work);
+    criteria::try_criterion(
         m,
-        columns,
-        columns + 1 + columns,
-        work,
-        coded_soft,
+        criterion_of(settings),
+        memory,
+        mask,
+        soft,
+        mark,
         coded_mark,
-    );
-    judge(settings, memory, same, soft, mark, coded_mark)
+    )
 }
 
 // Steps until the criterion holds, or to the limit.
@@ -254,17 +245,23 @@ fn run(
     work: &mut [i16],
 ) -> Outcome
     requires { ⌜ Ready (ruleOf settings) (settings .m) (now work) ⌝ }
-    requires { ⌜ (settings .operand ≤ 2047) × (1 ≤ settings .limit) × (settings .limit ≤ 200) ⌝ }
-    requires { ⌜ (2 ^ settings .m ≤ length (now mask)) × (2 ^ settings .m ≤ length (now soft)) × (2 ^ settings .m ≤ length (now mark)) × (2 ^ settings .m ≤ length (now «coded_soft»)) × (2 ^ settings .m ≤ length (now «coded_mark»)) ⌝ }
-    ensures { λ r. ⌜ Ran settings (now (mask .entry)) (now (soft .entry)) (now (mark .entry)) (now («coded_soft» .entry)) (now («coded_mark» .entry)) (now (work .entry)) (now (soft .exit)) (now (mark .exit)) (now («coded_soft» .exit)) (now («coded_mark» .exit)) (now (work .exit)) r ⌝ }
+    requires { ⌜ (settings .operand ≤ 2047) × (1 ≤ settings .limit) × (settings .limit ≤ largestLimit) ⌝ }
+    requires { ⌜ 2 ^ settings .m ≤ length (now mask) ⌝ }
+    requires { ⌜ OutputsFit (2 ^ settings .m) (slices (now soft) (now mark) (now «coded_soft») (now «coded_mark») (now work)) ⌝ }
+    ensures { λ r. ⌜ EndsAs settings (now (mask .entry)) (endOf settings (now (mask .entry)) (now (work .entry)))
+        (slices (now (soft .entry)) (now (mark .entry))
+        (now («coded_soft» .entry)) (now («coded_mark» .entry)) (now (work .entry)))
+        (slices (now (soft .exit)) (now (mark .exit))
+        (now («coded_soft» .exit)) (now («coded_mark» .exit)) (now (work .exit)))
+        r ⌝ }
 {
     let limit = settings.limit;
+    let mut memory = Memory::new();
     let mut iterations = 0;
-    let mut steady = 0;
     while iterations < limit {
         let progress = step(
             settings,
-            Memory { iterations, steady },
+            memory,
             mask,
             soft,
             mark,
@@ -272,13 +269,13 @@ fn run(
             coded_mark,
             work,
         );
-        let memory = progress.memory;
         let holds = progress.holds;
-        iterations = memory.iterations;
-        steady = memory.steady;
+        let next = progress.memory;
+        iterations += 1;
         if holds {
             return Outcome::Ended(iterations, Reason::Criterion);
         }
+        memory = next;
     }
     Outcome::Ended(iterations, Reason::Limit)
 }
@@ -298,6 +295,7 @@ fn iterate_times(rule: MinSum, m: u32, count: u32, work: &mut [i16])
 // Criterion 0 never holds, so only the last iteration's outputs are wanted.
 fn run_to_limit(
     settings: Settings,
+    mask: &[u8],
     soft: &mut [i16],
     mark: &mut [u8],
     coded_soft: &mut [i16],
@@ -305,13 +303,19 @@ fn run_to_limit(
     work: &mut [i16],
 ) -> Outcome
     requires { ⌜ Ready (ruleOf settings) (settings .m) (now work) ⌝ }
-    requires { ⌜ (2 ^ settings .m ≤ length (now soft)) × (2 ^ settings .m ≤ length (now mark)) × (2 ^ settings .m ≤ length (now «coded_soft»)) × (2 ^ settings .m ≤ length (now «coded_mark»)) ⌝ }
-    ensures { λ r. ⌜ Limited settings (now (soft .entry)) (now (mark .entry)) (now («coded_soft» .entry)) (now («coded_mark» .entry)) (now (work .entry)) (now (soft .exit)) (now (mark .exit)) (now («coded_soft» .exit)) (now («coded_mark» .exit)) (now (work .exit)) r ⌝ }
+    requires { ⌜ 2 ^ settings .m ≤ length (now mask) ⌝ }
+    requires { ⌜ OutputsFit (2 ^ settings .m) (slices (now soft) (now mark) (now «coded_soft») (now «coded_mark») (now work)) ⌝ }
+    ensures { λ r. ⌜ EndsAs settings (now (mask .entry)) (limitOf settings)
+        (slices (now (soft .entry)) (now (mark .entry))
+        (now («coded_soft» .entry)) (now («coded_mark» .entry)) (now (work .entry)))
+        (slices (now (soft .exit)) (now (mark .exit))
+        (now («coded_soft» .exit)) (now («coded_mark» .exit)) (now (work .exit)))
+        r ⌝ }
 {
     let m = settings.m;
     let limit = settings.limit;
     iterate_times(rule_of(settings), m, limit, work);
-    outputs(settings, work, soft, mark, coded_soft, coded_mark);
+    outputs(settings, mask, work, soft, mark, coded_soft, coded_mark);
     Outcome::Ended(limit, Reason::Limit)
 }
 
@@ -326,23 +330,28 @@ pub fn decode(
     coded_mark: &mut [u8],
     work: &mut [i16],
 ) -> Outcome
-    ensures { λ r. ⌜ Decoded settings (now (mask .entry)) (now (llr .entry)) (now (soft .entry)) (now (mark .entry)) (now («coded_soft» .entry)) (now («coded_mark» .entry)) (now (work .entry)) (now (soft .exit)) (now (mark .exit)) (now («coded_soft» .exit)) (now («coded_mark» .exit)) (now (work .exit)) r ⌝ }
+    ensures { λ r. ⌜ Decoded settings (now (mask .entry)) (now (llr .entry))
+        (slices (now (soft .entry)) (now (mark .entry))
+        (now («coded_soft» .entry)) (now («coded_mark» .entry)) (now (work .entry)))
+        (slices (now (soft .exit)) (now (mark .exit))
+        (now («coded_soft» .exit)) (now («coded_mark» .exit)) (now (work .exit)))
+        r ⌝ }
 {
-    let room = Room {
+    let lengths = Lengths {
         soft: soft.len(),
         mark: mark.len(),
         coded_soft: coded_soft.len(),
         coded_mark: coded_mark.len(),
         work: work.len(),
     };
-    match settings::refusal(settings, mask, llr, room) {
+    match settings::refusal(settings, mask, llr, lengths) {
         Answer::Refused(refusal) => Outcome::Refused(refusal),
         Answer::Done => {
             let m = settings.m;
             let criterion = settings.criterion;
             sweeps::begin(rule_of(settings), m, mask, llr, work);
             if criterion == 0 {
-                return run_to_limit(settings, soft, mark, coded_soft, coded_mark, work);
+                return run_to_limit(settings, mask, soft, mark, coded_soft, coded_mark, work);
             }
             run(settings, mask, soft, mark, coded_soft, coded_mark, work)
         }

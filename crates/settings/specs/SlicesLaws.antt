@@ -1,10 +1,9 @@
 -- Laws of the five slices: equal slice by slice, and long enough for a block.
 use Prim.Native.Nat.{ℕ, _^_, _≤_}
-use mathlib.Core.Path.{_≡_, ap}
+use mathlib.Core.Path.{_≡_}
 use mathlib.Core.List.{List}
 use lib.IntN.{ℤ}
 use lib.ListN.{length}
-use Rattle.settings.specs.declared.Lengths.{Lengths}
 use Rattle.settings.specs.Slices.{Slices, slices, lengthsOf}
 use Rattle.settings.specs.SettingsLaws.{SlicesAccepted}
 
@@ -20,10 +19,14 @@ pub record OutputsFit (N : ℕ) (l : Slices) : Type 0 where
   pub codedSoft : N ≤ length (l .codedSoft)
   pub codedMark : N ≤ length (l .codedMark)
 
-pub outputs-fit : {m mask llr : ℕ} {l : Slices} → SlicesAccepted m mask llr (lengthsOf l) → OutputsFit (2 ^ m) l
-outputs-fit a = record {
+pub outputs-fit : {m mask llr : ℕ} (l : Slices) → SlicesAccepted m mask llr (lengthsOf l) → OutputsFit (2 ^ m) l
+outputs-fit l a = record {
   soft = a .soft-long;
   mark = a .mark-long;
   codedSoft = a .coded-soft-long;
   codedMark = a .coded-mark-long;
 }
+
+-- whatever the workspace
+pub fit-with : {N : ℕ} {l : Slices} (w : List ℤ) → OutputsFit N l → OutputsFit N (slices (l .soft) (l .mark) (l .codedSoft) (l .codedMark) w)
+fit-with w h = record { soft = h .soft; mark = h .mark; codedSoft = h .codedSoft; codedMark = h .codedMark }

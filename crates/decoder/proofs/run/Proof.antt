@@ -1,99 +1,102 @@
--- `run` meets its contract: t steps are done, and the criterion held after none of them.
+-- `run` meets its contract.
 use Prim.Native.Nat.{ℕ, suc, _≤_, _<_, _-_, _^_, zero-le}
-use mathlib.Core.Path.{_≡_, refl, sym, ap, _∙_}
+use mathlib.Core.Path.{_≡_, ap}
 use native.Mathlib.Numerals.{add-one}
 use native.Mathlib.Omega.{arith}
 use borrow.Author.Needs.{needs}
 use denote.Ref.{now}
-use lib.ListN.{length}
-use Rattle.decoder.proofs.Running.{Running, Slices, slices, running-none, Long, steady-le, running-ready, running-long, running-next, running-lengths, SameLengths, stepped-lengths, ran-found, ran-last}
+use Rattle.settings.specs.declared.Lengths.{Lengths}
+use Rattle.settings.specs.Slices.{Slices, slices, lengthsOf}
+use Rattle.decoder.specs.RunLaws.{run-valid, run-memory}
+use Rattle.decoder.proofs.Running.{Steps, no-steps, steps-lengths, steps-fit, steps-ended, next-lengths, next-step, found}
 use Rattle.decoder.proofs.run.Statement.{statement}
 use Rattle.decoder.proofs.run.Tie as tie
 
 abbrev Inv-loop : tie.InvT-loop
-Inv-loop settings mask soft₀ mark₀ coded-soft₀ coded-mark₀ work₀ limit iterations₀ steady₀ soft mark coded-soft coded-mark work iterations steady = (iterations ≤ limit) × Running settings mask iterations steady (slices soft₀ mark₀ coded-soft₀ coded-mark₀ work₀) (slices soft mark coded-soft coded-mark work)
+Inv-loop settings mask soft₀ mark₀ coded-soft₀ coded-mark₀ work₀ limit memory₀ iterations₀ soft mark coded-soft coded-mark work memory iterations =
+    (iterations ≤ limit)
+    × Steps settings mask iterations memory (slices soft₀ mark₀ coded-soft₀ coded-mark₀ work₀) (slices soft mark coded-soft coded-mark work)
 
 abbrev μ-loop : tie.MeasureT-loop
-μ-loop settings mask soft₀ mark₀ coded-soft₀ coded-mark₀ work₀ limit iterations₀ steady₀ soft mark coded-soft coded-mark work iterations steady = limit - iterations
+μ-loop settings mask soft₀ mark₀ coded-soft₀ coded-mark₀ work₀ limit memory₀ iterations₀ soft mark coded-soft coded-mark work memory iterations = limit - iterations
 
-abbrev old : tie.Start Inv-loop μ-loop → Slices
-old c = slices (now (c .args .soft)) (now (c .args .mark)) (now (c .args .coded-soft)) (now (c .args .coded-mark)) (now (c .args .work))
-
-long : (c : tie.Start Inv-loop μ-loop) → Long (c .args .settings) (old c)
-long c = let h = c .pre .1 .1 in record { soft = h .1; mark = h .2; coded-soft = h .3; coded-mark = h .4 }
+abbrev first : tie.Start Inv-loop μ-loop → Slices
+first c = let a = c .args in slices (now (a .soft)) (now (a .mark)) (now (a .coded-soft)) (now (a .coded-mark)) (now (a .work))
 
 module _ (c : tie.After-step Inv-loop μ-loop) where
   abbrev at : tie.At-loop Inv-loop μ-loop
   at = c .before .before .before .before .before .before .before
 
   abbrev start : tie.Start Inv-loop μ-loop
-  start = at .before .before .before .before
+  start = at .before .before .before .before .before
 
   abbrev new : Slices
   new = let l = c .step .last in slices (l .1 .1 .1 .0) (l .1 .1 .1 .1 .0) (l .1 .1 .1 .1 .1 .0) (l .1 .1 .1 .1 .1 .1 .0) (l .1 .1 .1 .1 .1 .1 .1 .0)
 
-  same : SameLengths (old start) new
-  same = stepped-lengths (at .loop .inv .1) (long start) refl refl (c .step .ensures)
+  same : lengthsOf new ≡ lengthsOf (first start)
+  same = next-lengths (at .loop .inv .1) (c .step .ensures)
 
-  next : c .step .result .memory .iterations ≡ suc (at .loop .iterations)
-  next = c .step .ensures .iterations-is ∙ add-one _
+new-requires : tie.Need-new-requires Inv-loop μ-loop
+new-requires c κs = search needs
 
 loop-holds : tie.Need-loop-holds Inv-loop μ-loop
-loop-holds c = (zero-le, running-none)
+loop-holds c = let s = c .before .before .before .before in (zero-le, no-steps (s .args .settings) (now (s .args .mask)) (first s) (c .new .ensures))
 
 step-requires : tie.Need-step-requires Inv-loop μ-loop
 step-requires c κs =
-    let loop = c .before .before .before .before .before .before in
-    let s = loop .before .before .before .before in
-    let h = loop .loop .inv .1 in
-    let l = running-long h (long s) in
-    (running-ready h (s .pre .0), ((s .pre .1 .0 .0, omega arith, steady-le h), (s .pre .1 .1 .0, l .soft, l .mark, l .coded-soft, l .coded-mark)))
+    let l = c .before .before .before .before .before .before in
+    let s = l .before .before .before .before .before in
+    let h = l .loop .inv .1 in
+    (run-valid (h .goes-on) (s .pre .0), ((s .pre .1 .0 .0, run-memory (h .goes-on) (omega arith)), (s .pre .1 .1 .0, steps-fit h (s .pre .1 .1 .1))))
+
+add-iterations : tie.Need-add-iterations Inv-loop μ-loop
+add-iterations c = omega arith
 
 same-length : tie.Need-same-length Inv-loop μ-loop
-same-length c = same (c .before .before .before .before .before .before .before .before .before) .soft
+same-length c = ap (λ (l : Lengths). l .soft) (same (c .before .before .before .before .before .before .before .before .before))
 
 same-length-2 : tie.Need-same-length-2 Inv-loop μ-loop
-same-length-2 c = same (c .before .before .before .before .before .before .before .before .before) .mark
+same-length-2 c = ap (λ (l : Lengths). l .mark) (same (c .before .before .before .before .before .before .before .before .before))
 
 same-length-3 : tie.Need-same-length-3 Inv-loop μ-loop
-same-length-3 c = same (c .before .before .before .before .before .before .before .before .before) .coded-soft
+same-length-3 c = ap (λ (l : Lengths). l .«coded_soft») (same (c .before .before .before .before .before .before .before .before .before))
 
 same-length-4 : tie.Need-same-length-4 Inv-loop μ-loop
-same-length-4 c = same (c .before .before .before .before .before .before .before .before .before) .coded-mark
+same-length-4 c = ap (λ (l : Lengths). l .«coded_mark») (same (c .before .before .before .before .before .before .before .before .before))
 
 same-length-5 : tie.Need-same-length-5 Inv-loop μ-loop
-same-length-5 c = same (c .before .before .before .before .before .before .before .before .before) .work
+same-length-5 c = ap (λ (l : Lengths). l .work) (same (c .before .before .before .before .before .before .before .before .before))
 
 returns : tie.Need-returns Inv-loop μ-loop
 returns c =
-    let after = c .before .before .before .before .before .before .before .before .before in
-    ran-found (at after .loop .inv .1) (long (start after)) refl refl (after .step .ensures) (c .if1 .taken) (omega arith) _ (next after)
+    let a = c .before .before .before .before .before .before .before .before .before in
+    found (at a .loop .inv .1) (a .step .ensures) (start a .pre .1 .1 .1) (c .if1 .taken) (omega arith) _ (add-one (at a .loop .iterations))
 
 loop-less : tie.Need-loop-less Inv-loop μ-loop
-loop-less c = omega (arith, next (c .before .before .before .before .before .before .before .before .before))
+loop-less c = omega arith
 
 loop-again : tie.Need-loop-again Inv-loop μ-loop
 loop-again c =
-    let after = c .before .before .before .before .before .before .before .before .before in
-    (omega (arith, next after), running-next (at after .loop .inv .1) (long (start after)) refl refl (after .step .ensures) (c .if1 .left) _ (next after))
+    let a = c .before .before .before .before .before .before .before .before .before in
+    (omega arith, next-step (at a .loop .inv .1) (a .step .ensures) (start a .pre .1 .1 .1) (c .if1 .left) _ (add-one (at a .loop .iterations)))
 
 same-length-6 : tie.Need-same-length-6 Inv-loop μ-loop
-same-length-6 c = running-lengths (c .before .loop .inv .1) .soft
+same-length-6 c = ap (λ (l : Lengths). l .soft) (steps-lengths (c .before .loop .inv .1))
 
 same-length-7 : tie.Need-same-length-7 Inv-loop μ-loop
-same-length-7 c = running-lengths (c .before .loop .inv .1) .mark
+same-length-7 c = ap (λ (l : Lengths). l .mark) (steps-lengths (c .before .loop .inv .1))
 
 same-length-8 : tie.Need-same-length-8 Inv-loop μ-loop
-same-length-8 c = running-lengths (c .before .loop .inv .1) .coded-soft
+same-length-8 c = ap (λ (l : Lengths). l .«coded_soft») (steps-lengths (c .before .loop .inv .1))
 
 same-length-9 : tie.Need-same-length-9 Inv-loop μ-loop
-same-length-9 c = running-lengths (c .before .loop .inv .1) .coded-mark
+same-length-9 c = ap (λ (l : Lengths). l .«coded_mark») (steps-lengths (c .before .loop .inv .1))
 
 same-length-10 : tie.Need-same-length-10 Inv-loop μ-loop
-same-length-10 c = running-lengths (c .before .loop .inv .1) .work
+same-length-10 c = ap (λ (l : Lengths). l .work) (steps-lengths (c .before .loop .inv .1))
 
 returns-2 : tie.Need-returns-2 Inv-loop μ-loop
-returns-2 c = ran-last _ (c .before .loop .inv .1) (omega arith) (omega arith)
+returns-2 c = steps-ended _ (c .before .loop .inv .1) (omega arith) (omega arith)
 
 pub run-spec : {M : Type 1} → statement M
 run-spec =
@@ -101,8 +104,10 @@ run-spec =
     (tie.spec
     Inv-loop
     μ-loop
+    new-requires
     loop-holds
     step-requires
+    add-iterations
     same-length
     same-length-2
     same-length-3

@@ -1,35 +1,47 @@
 -- `run_to_limit` meets its contract.
-use mathlib.Core.Path.{_≡_, refl, ap, _∙_}
-use borrow.Author.Needs.{needs}
+use mathlib.Core.Path.{_≡_, refl, sym, ap, subst, _∙_}
+use mathlib.Core.List.{List}
 use denote.Ref.{now}
+use lib.IntN.{ℤ}
 use Rattle.message.specs.declared.MinSum.{MinSum}
 use Rattle.sweeps.specs.Iteration.{iterations}
-use Rattle.sweeps.specs.IterationLaws.{ready-iterations}
-use Rattle.decoder.specs.Decoder.{ruleOf}
+use Rattle.sweeps.specs.IterationLaws.{Ready, ready-iterations}
+use Rattle.settings.specs.Slices.{slices}
+use Rattle.settings.specs.SlicesLaws.{fit-with}
+use Rattle.decoder.specs.Decoder.{ruleOf, outputsOf}
+use borrow.Author.Needs.{needs}
 use Rattle.decoder.proofs.run_to_limit.Statement.{statement}
 use Rattle.decoder.proofs.run_to_limit.Tie as tie
 
+-- all iterations are made
 module _ (c : tie.After-iterate-times) where
-  abbrev entry : tie.Start
-  entry = c .before .before .before .before .before
+  abbrev start : tie.Start
+  start = c .before .before .before .before .before .before
 
-  iterated : let a = entry .args in
-      c .iterate-times .last .1 .1 .1 .0 ≡ iterations (ruleOf (a .settings)) (a .settings .m) (a .settings .limit) (now (a .work))
+  iterated : c .iterate-times .last .1 .1 .1 .0
+      ≡ iterations (ruleOf (start .args .settings)) (start .args .settings .m) (start .args .settings .limit) (now (start .args .work))
   iterated =
-      let a = entry .args in
-      c .iterate-times .ensures ∙ ap (λ (rule : MinSum). iterations rule (a .settings .m) (a .settings .limit) (now (a .work))) (c .before .before .rule-of .ensures)
+      c .iterate-times .ensures
+      ∙ ap (λ (rule : MinSum). iterations rule (start .args .settings .m) (start .args .settings .limit) (now (start .args .work)))
+      (c .before .before .rule-of .ensures)
+
+  valid : Ready (ruleOf (start .args .settings)) (start .args .settings .m) (c .iterate-times .last .1 .1 .1 .0)
+  valid =
+      subst (λ (w : List ℤ). Ready (ruleOf (start .args .settings)) (start .args .settings .m) w) (sym iterated)
+      (ready-iterations (start .pre .0) (start .args .settings .limit))
 
 rule-of-requires : tie.Need-rule-of-requires
-rule-of-requires c κs = let s = c .before .before in (s .pre .0 .tested .ceiling-le, s .pre .0 .tested .scale-le)
+rule-of-requires c κs = search needs
 
 iterate-times-requires : tie.Need-iterate-times-requires
-iterate-times-requires c κs = rw (c .before .rule-of .ensures) (c .before .before .before .before .pre .0)
+iterate-times-requires c κs =
+    rw (c .before .rule-of .ensures) (c .before .before .before .before .before .pre .0)
 
 outputs-requires : tie.Need-outputs-requires
 outputs-requires c κs =
-    let done = c .before .before .before .before .before .before in
-    let s = entry done in
-    (rw (iterated done) (ready-iterations (s .pre .0) (s .args .settings .limit)), s .pre .1)
+    let i = c .before .before .before .before .before .before in
+    let s = start i in
+    (valid i, (s .pre .1 .0, fit-with _ (s .pre .1 .1)))
 
 same-length : tie.Need-same-length
 same-length c = search needs
@@ -48,15 +60,15 @@ same-length-5 c = search needs
 
 returns : tie.Need-returns
 returns c =
-    let out = c .before .before .before .before .before .before in
-    let done = out .before .before .before .before .before .before .before in
+    let o = c .before .before .before .before .before .before in
+    let i = o .before .before .before .before .before .before .before in
+    let a = start i .args in
     record {
       answer = refl;
-      work-is = iterated done;
-      soft-is = out .outputs .ensures .0;
-      mark-is = out .outputs .ensures .1 .0;
-      coded-soft-is = out .outputs .ensures .1 .1 .0;
-      coded-mark-is = out .outputs .ensures .1 .1 .1;
+      slices =
+          o .outputs .ensures
+          ∙ ap (λ (w : List ℤ). outputsOf (a .settings) (now (a .mask)) w
+          (slices (now (a .soft)) (now (a .mark)) (now (a .coded-soft)) (now (a .coded-mark)) (now (a .work)))) (iterated i);
     }
 
 pub run-to-limit-spec : {M : Type 1} → statement M

@@ -1,0 +1,55 @@
+-- Laws of the outputs: the size of a soft output, how a turned sign comes out of it, and slices that take the outputs of a workspace.
+use Prim.Native.Nat.{ℕ, zero, suc, _^_, _≤_, _<_}
+use mathlib.Core.Path.{_≡_, refl, sym, subst}
+use mathlib.Core.Bool.{Bool, false}
+use mathlib.Core.List.{List}
+use lib.IntN.{ℤ, natAbs}
+use lib.ListN.{length}
+use Rattle.calls.specs.Memory.{overwrite}
+use Rattle.calls.specs.MemoryLaws.{length-overwrite, overwrite-twice}
+use Rattle.calls.specs.Signs.{flipped}
+use Rattle.message.specs.declared.MinSum.{MinSum}
+use Rattle.message.specs.MessageLaws.{add-size, add-flipped}
+use Rattle.settings.specs.declared.Settings.{Settings}
+use Rattle.settings.specs.declared.Lengths.{Lengths}
+use Rattle.settings.specs.Slices.{Slices, lengthsOf}
+use Rattle.settings.specs.SlicesLaws.{OutputsFit, slices-same}
+use Rattle.decoder.specs.Decoder.{softOf, softAt, markAt, codedSoftAt, codedMarkAt, outputsOf}
+
+-- ---- a soft output
+
+pub soft-size : (rule : MinSum) (kind : ℕ) (left right : ℤ) → natAbs (softOf rule kind left right) ≤ rule .ceiling
+soft-size rule kind left right = add-size rule left right
+
+-- the sign of both directions comes out of it; at a frozen position no sign is turned
+pub soft-flipped : (rule : MinSum) (kind : ℕ) (b : Bool) (left right : ℤ) → ((kind ≡ 0 → ⊥) → b ≡ false)
+    → softOf rule kind (flipped b left) (flipped b right) ≡ flipped b (softOf rule kind left right)
+soft-flipped rule kind b left right frozen = add-flipped rule b left right
+
+-- ---- the outputs of a workspace
+
+module _ (s : Settings) (mask : List ℕ) where
+  -- they take the place of those of another
+  pub outputs-again : (w v : List ℤ) (old : Slices) → outputsOf s mask w (outputsOf s mask v old) ≡ outputsOf s mask w old
+  outputs-again w v old =
+      slices-same (overwrite-twice (2 ^ s .m) _ _ (old .soft)) (overwrite-twice (2 ^ s .m) _ _ (old .mark))
+      (overwrite-twice (2 ^ s .m) _ _ (old .codedSoft)) (overwrite-twice (2 ^ s .m) _ _ (old .codedMark)) refl
+
+  -- and keep every length
+  pub outputs-lengths : (w : List ℤ) (old : Slices) → length w ≡ length (old .work) → lengthsOf (outputsOf s mask w old) ≡ lengthsOf old
+  outputs-lengths w old same i =
+      record {
+        soft = length-overwrite (2 ^ s .m) (softAt s mask w) (old .soft) i;
+        mark = length-overwrite (2 ^ s .m) (markAt s mask w) (old .mark) i;
+        «coded_soft» = length-overwrite (2 ^ s .m) (codedSoftAt s w) (old .codedSoft) i;
+        «coded_mark» = length-overwrite (2 ^ s .m) (codedMarkAt s w) (old .codedMark) i;
+        work = same i;
+      }
+
+pub fit-same : {N : ℕ} {a b : Slices} → lengthsOf b ≡ lengthsOf a → OutputsFit N a → OutputsFit N b
+fit-same {N} {a} {b} same h = record {
+  soft = subst (λ (l : Lengths). N ≤ l .soft) (sym same) (h .soft);
+  mark = subst (λ (l : Lengths). N ≤ l .mark) (sym same) (h .mark);
+  codedSoft = subst (λ (l : Lengths). N ≤ l .«coded_soft») (sym same) (h .codedSoft);
+  codedMark = subst (λ (l : Lengths). N ≤ l .«coded_mark») (sym same) (h .codedMark);
+}
