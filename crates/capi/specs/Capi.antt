@@ -9,8 +9,8 @@ use Rattle.calls.specs.Numbers.{check, andThen}
 use Rattle.calls.specs.Memory.{overwrite, unlessRefused}
 use Rattle.polar.specs.declared.Code.{Code}
 use Rattle.settings.specs.declared.Settings.{Settings}
-use Rattle.settings.specs.declared.Room.{Room}
-use Rattle.decoder.specs.Decoder.{Result, refused, ended, decodeResult, decodeSoft, decodeMark, decodeCodedSoft, decodeCodedMark, decodeWork, roomOf}
+use Rattle.settings.specs.Slices.{Slices}
+use Rattle.decoder.specs.Decoder.{Result, refused, ended, decodeResult, decodeSlices}
 use Rattle.tally.specs.declared.Tally.{Tally}
 use Rattle.tally.specs.Tally.{tallyNumber, answerBy, counted}
 
@@ -56,34 +56,38 @@ abbrev pub reasonOut : Result → ℕ → ℕ
 reasonOut (refused number) old = old
 reasonOut (ended iteration reason) old = reason
 
+-- ---- what a decoding function is lent to write: the decoder's slices, and a number each for iteration and reason
+
+pub record Lent : Type 0 where
+  pub slices : Slices
+  pub iterations : ℕ
+  pub reason : ℕ
+
+abbrev pub lent : Slices → ℕ → ℕ → Lent
+lent slices iterations reason = record { slices = slices; iterations = iterations; reason = reason }
+
 -- ---- the promise of both decoding functions; `first` is the number of the tests before the decoder, 0 where they pass
 
-module _ (first : ℕ) (settings mask : List ℕ) (llr soft : List ℤ) (mark : List ℕ) (codedSoft : List ℤ) (codedMark : List ℕ) (work : List ℤ) where
-  abbrev pub room : Room
-  room = roomOf soft mark codedSoft codedMark work
-
+module _ (first : ℕ) (settings mask : List ℕ) (llr : List ℤ) (before : Lent) where
   abbrev pub callResult : Result
-  callResult = answerBy first (decodeResult (settingsIn settings) mask llr room work)
+  callResult = answerBy first (decodeResult (settingsIn settings) mask llr (before .slices))
 
-  pub record DecodeCall (iterations reason : ℕ) (soft′ : List ℤ) (mark′ : List ℕ) (codedSoft′ : List ℤ) (codedMark′ : List ℕ) (work′ : List ℤ)
-      (iterations′ reason′ r : ℕ) : Type 0 where
+  abbrev pub lentAfter : Lent
+  lentAfter =
+      lent (unlessRefused first (decodeSlices (settingsIn settings) mask llr (before .slices)) (before .slices))
+      (iterationsOut callResult (before .iterations))
+      (reasonOut callResult (before .reason))
+
+  pub record DecodeCall (after : Lent) (r : ℕ) : Type 0 where
     pub number-is : r ≡ resultNumber callResult
-    pub iterations-is : iterations′ ≡ iterationsOut callResult iterations
-    pub reason-is : reason′ ≡ reasonOut callResult reason
-    pub soft-is : soft′ ≡ unlessRefused first (decodeSoft (settingsIn settings) mask llr room work soft) soft
-    pub mark-is : mark′ ≡ unlessRefused first (decodeMark (settingsIn settings) mask llr room work mark) mark
-    pub coded-soft-is : codedSoft′ ≡ unlessRefused first (decodeCodedSoft (settingsIn settings) mask llr room work codedSoft) codedSoft
-    pub coded-mark-is : codedMark′ ≡ unlessRefused first (decodeCodedMark (settingsIn settings) mask llr room work codedMark) codedMark
-    pub work-is : work′ ≡ unlessRefused first (decodeWork (settingsIn settings) mask llr room work) work
+    pub lent-is : after ≡ lentAfter
 
 -- ---- the promise of `vedrogne_decode_tallied`: the same, and the tally afterwards
 
 -- the decoder's answer is counted, refusals 1 to 10 included; after the 7 of a short list and after 15 the tally is as it was
-abbrev pub tallyAfter : List ℕ → List ℕ → Result → List ℕ
-tallyAfter tally settings answer = unlessRefused (talliedNumber tally settings) (tallyOut (counted (tallyIn tally) answer) tally) tally
+abbrev pub tallyListAfter : List ℕ → List ℕ → Result → List ℕ
+tallyListAfter tally settings answer = unlessRefused (talliedNumber tally settings) (tallyOut (counted (tallyIn tally) answer) tally) tally
 
-pub record TalliedCall (tally settings mask : List ℕ) (llr soft : List ℤ) (mark : List ℕ) (codedSoft : List ℤ) (codedMark : List ℕ) (work : List ℤ)
-    (iterations reason : ℕ) (tally′ : List ℕ) (soft′ : List ℤ) (mark′ : List ℕ) (codedSoft′ : List ℤ) (codedMark′ : List ℕ) (work′ : List ℤ) (iterations′ reason′ r : ℕ)
-    : Type 0 where
-  pub call : DecodeCall (talliedNumber tally settings) settings mask llr soft mark codedSoft codedMark work iterations reason soft′ mark′ codedSoft′ codedMark′ work′ iterations′ reason′ r
-  pub tally-is : tally′ ≡ tallyAfter tally settings (decodeResult (settingsIn settings) mask llr (roomOf soft mark codedSoft codedMark work) work)
+pub record TalliedCall (tally tally′ settings mask : List ℕ) (llr : List ℤ) (before after : Lent) (r : ℕ) : Type 0 where
+  pub call : DecodeCall (talliedNumber tally settings) settings mask llr before after r
+  pub tally-is : tally′ ≡ tallyListAfter tally settings (decodeResult (settingsIn settings) mask llr (before .slices))

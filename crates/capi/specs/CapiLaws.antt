@@ -7,11 +7,10 @@ use lib.IntN.{ℤ}
 use lib.ListN.{length, set}
 use borrow.Author.Tests.{le-leb, lt-leb}
 use Rattle.calls.specs.Memory.{unlessRefused}
-use Rattle.settings.specs.Settings.{decodeNumber}
-use Rattle.decoder.specs.Decoder.{Ending, ending, Result, byNumber, roomOf}
+use Rattle.decoder.specs.Decoder.{Ending, ending, Result, resultBy, callNumber}
 use Rattle.tally.specs.declared.Tally.{Tally}
 use Rattle.tally.specs.Tally.{tallyNumber, counted, answerBy, tallyBy}
-use Rattle.capi.specs.Capi.{settingsIn, tallyIn, tallyOut, settingsListNumber, talliedNumber, resultNumber, DecodeCall}
+use Rattle.capi.specs.Capi.{settingsIn, tallyIn, tallyOut, settingsListNumber, talliedNumber, resultNumber, Lent, DecodeCall}
 
 -- ---- the tally's list
 
@@ -59,27 +58,14 @@ module _ (tally settings : List ℕ) where
 
 -- ---- after a refusal, whoever refuses, the lent slices, iteration and reason are as they were
 
-refused-by : (first number : ℕ) (e : Ending) {refusal : ℕ} {P : Type 0} → resultNumber (answerBy first (byNumber number e)) ≡ suc refusal
+refused-by : (first number : ℕ) (e : Ending) {refusal : ℕ} {P : Type 0} → resultNumber (answerBy first (resultBy number e)) ≡ suc refusal
     → ((k : ℕ) → first ≡ suc k → P) → ((k : ℕ) → first ≡ 0 → number ≡ suc k → P) → P
 refused-by zero zero e h before within = absurd (omega arith)
 refused-by zero (suc number) e h before within = within number refl refl
 refused-by (suc first) number e h before within = before first refl
 
-module _ {first : ℕ} {settings mask : List ℕ} {llr soft : List ℤ} {mark : List ℕ} {codedSoft : List ℤ} {codedMark : List ℕ} {work : List ℤ} {iterations reason : ℕ}
-    {soft′ : List ℤ} {mark′ : List ℕ} {codedSoft′ : List ℤ} {codedMark′ : List ℕ} {work′ : List ℤ} {iterations′ reason′ refusal : ℕ} where
-  pub refusal-writes-nothing
-      : DecodeCall first settings mask llr soft mark codedSoft codedMark work iterations reason soft′ mark′ codedSoft′ codedMark′ work′ iterations′ reason′ (suc refusal)
-      → (soft′ ≡ soft) × (mark′ ≡ mark) × (codedSoft′ ≡ codedSoft) × (codedMark′ ≡ codedMark) × (work′ ≡ work) × (iterations′ ≡ iterations) × (reason′ ≡ reason)
-  refusal-writes-nothing c =
-      refused-by first (decodeNumber (settingsIn settings) mask llr (roomOf soft mark codedSoft codedMark work)) (ending (settingsIn settings) mask llr work) (sym (c .number-is))
-      (λ k h.
-      (c .soft-is ∙ rw h, c .mark-is ∙ rw h, c .coded-soft-is ∙ rw h, c .coded-mark-is ∙ rw h, c .work-is ∙ rw h, c .iterations-is ∙ rw h, c .reason-is ∙ rw h))
-      (λ k h g. (
-        c .soft-is ∙ rw (h, g),
-        c .mark-is ∙ rw (h, g),
-        c .coded-soft-is ∙ rw (h, g),
-        c .coded-mark-is ∙ rw (h, g),
-        c .work-is ∙ rw (h, g),
-        c .iterations-is ∙ rw (h, g),
-        c .reason-is ∙ rw (h, g),
-      ))
+pub refusal-writes-nothing : {first : ℕ} {settings mask : List ℕ} {llr : List ℤ} {before after : Lent} {refusal : ℕ}
+    → DecodeCall first settings mask llr before after (suc refusal) → after ≡ before
+refusal-writes-nothing {first} {settings} {mask} {llr} {before} c =
+    refused-by first (callNumber (settingsIn settings) mask llr (before .slices)) (ending (settingsIn settings) mask llr (before .slices .work))
+    (sym (c .number-is)) (λ k h. c .lent-is ∙ rw h) (λ k h g. c .lent-is ∙ rw (h, g))

@@ -7,8 +7,9 @@ ghost use Prim.Native.Nat.{_≤_};
 ghost use lib.ListN.{length};
 ghost use Rattle.polar.specs.Code.{encodeNumber, encodeBlock, readOutNumber, readOutMessage};
 ghost use Rattle.channel.specs.Front.{frontNumber, frontLlrs};
+ghost use Rattle.settings.specs.Slices.{slices};
 ghost use Rattle.decoder.specs.Decoder.{resultOf};
-ghost use Rattle.capi.specs.Capi.{codeIn, settingsIn, tallyIn, tallyOut, settingsListNumber, resultNumber, iterationsOut, reasonOut, DecodeCall, TalliedCall};
+ghost use Rattle.capi.specs.Capi.{codeIn, settingsIn, tallyIn, tallyOut, settingsListNumber, resultNumber, iterationsOut, reasonOut, lent, DecodeCall, TalliedCall};
 use calls::Answer;
 use channel::Channel;
 use decoder::Outcome;
@@ -91,7 +92,15 @@ pub extern "C" fn vedrogne_decode(
     iterations: &mut u32,
     reason: &mut u32,
 ) -> u32
-    ensures { λ r. ⌜ DecodeCall (settingsListNumber (now (settings .entry))) (now (settings .entry)) (now (mask .entry)) (now (llr .entry)) (now (soft .entry)) (now (mark .entry)) (now («coded_soft» .entry)) (now («coded_mark» .entry)) (now (work .entry)) (now (iterations .entry)) (now (reason .entry)) (now (soft .exit)) (now (mark .exit)) (now («coded_soft» .exit)) (now («coded_mark» .exit)) (now (work .exit)) (now (iterations .exit)) (now (reason .exit)) r ⌝ }
+    ensures { λ r. ⌜ DecodeCall (settingsListNumber (now (settings .entry)))
+        (now (settings .entry)) (now (mask .entry)) (now (llr .entry))
+        (lent (slices (now (soft .entry)) (now (mark .entry))
+        (now («coded_soft» .entry)) (now («coded_mark» .entry)) (now (work .entry)))
+        (now (iterations .entry)) (now (reason .entry)))
+        (lent (slices (now (soft .exit)) (now (mark .exit))
+        (now («coded_soft» .exit)) (now («coded_mark» .exit)) (now (work .exit)))
+        (now (iterations .exit)) (now (reason .exit)))
+        r ⌝ }
 {
     if settings.len() < SETTINGS_LENGTH {
         return SHORT_LIST;
@@ -124,7 +133,15 @@ pub extern "C" fn vedrogne_decode_tallied(
     iterations: &mut u32,
     reason: &mut u32,
 ) -> u32
-    ensures { λ r. ⌜ TalliedCall (now (tally .entry)) (now (settings .entry)) (now (mask .entry)) (now (llr .entry)) (now (soft .entry)) (now (mark .entry)) (now («coded_soft» .entry)) (now («coded_mark» .entry)) (now (work .entry)) (now (iterations .entry)) (now (reason .entry)) (now (tally .exit)) (now (soft .exit)) (now (mark .exit)) (now («coded_soft» .exit)) (now («coded_mark» .exit)) (now (work .exit)) (now (iterations .exit)) (now (reason .exit)) r ⌝ }
+    ensures { λ r. ⌜ TalliedCall (now (tally .entry)) (now (tally .exit))
+        (now (settings .entry)) (now (mask .entry)) (now (llr .entry))
+        (lent (slices (now (soft .entry)) (now (mark .entry))
+        (now («coded_soft» .entry)) (now («coded_mark» .entry)) (now (work .entry)))
+        (now (iterations .entry)) (now (reason .entry)))
+        (lent (slices (now (soft .exit)) (now (mark .exit))
+        (now («coded_soft» .exit)) (now («coded_mark» .exit)) (now (work .exit)))
+        (now (iterations .exit)) (now (reason .exit)))
+        r ⌝ }
 {
     if tally.len() < TALLY_LENGTH {
         return SHORT_LIST;

@@ -1,5 +1,5 @@
 pub mod Tally
 pub mod Runs
-pub mod Working
+pub mod Private
 pub mod TallyLaws
 pub mod Cases

@@ -6,7 +6,8 @@ use lib.Dec.{eqb}
 use lib.IntN.{ℤ}
 use lib.ListN.{length}
 use Rattle.settings.specs.declared.Settings.{Settings}
-use Rattle.decoder.specs.Decoder.{Result, refused, ended, decodeResult, roomOf}
+use Rattle.settings.specs.Slices.{Slices}
+use Rattle.decoder.specs.Decoder.{Result, refused, ended, decodeResult}
 use Rattle.tally.specs.declared.Tally.{Tally}
 use Rattle.tally.specs.Tally.{tallyNumber, answerBy, tallyBy}
 
@@ -15,16 +16,11 @@ pub record Call : Type 0 where
   pub settings : Settings
   pub mask : List ℕ
   pub llr : List ℤ
-  pub soft : List ℤ
-  pub mark : List ℕ
-  pub codedSoft : List ℤ
-  pub codedMark : List ℕ
-  pub work : List ℤ
+  pub slices : Slices
 
 -- what the decoder answers it
 abbrev pub decoded : Call → Result
-decoded c =
-    decodeResult (c .settings) (c .mask) (c .llr) (roomOf (c .soft) (c .mark) (c .codedSoft) (c .codedMark) (c .work)) (c .work)
+decoded c = decodeResult (c .settings) (c .mask) (c .llr) (c .slices)
 
 -- five zeros
 abbrev pub none : Tally

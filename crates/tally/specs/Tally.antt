@@ -8,7 +8,8 @@ use lib.IntN.{ℤ}
 use Rattle.calls.specs.Numbers.{check, between}
 use Rattle.calls.specs.Memory.{unlessRefused}
 use Rattle.settings.specs.declared.Settings.{Settings}
-use Rattle.decoder.specs.Decoder.{Result, refused, ended, decodeResult, decodeSoft, decodeMark, decodeCodedSoft, decodeCodedMark, decodeWork, roomOf, resultOf}
+use Rattle.settings.specs.Slices.{Slices}
+use Rattle.decoder.specs.Decoder.{Result, refused, ended, resultOf, decodeResult, decodeSlices}
 use Rattle.tally.specs.declared.Tally.{Tally}
 use Rattle.tally.specs.declared.Tallied.{Tallied}
 
@@ -16,12 +17,19 @@ use Rattle.tally.specs.declared.Tallied.{Tallied}
 abbrev pub endings : Tally → ℕ
 endings t = t .«by_criterion» + t .«by_limit»
 
+-- the first number of blocks that a tally is refused with, and the iterations that it allows for each ending
+abbrev pub mostBlocks : ℕ
+mostBlocks = 1000000
+
+abbrev pub mostIterations : ℕ
+mostIterations = 200
+
 -- 15: blocks at or above 1,000,000; or blocks not the sum of endings and refusals; or iterations below the endings or above 200 times them
 abbrev pub tallyNumber : Tally → ℕ
 tallyNumber t =
-    check (ltb (t .blocks) 1000000) 15
+    check (ltb (t .blocks) mostBlocks) 15
     (check (eqb (t .blocks) (endings t + t .refusals)) 15
-    (check (between (endings t) (200 * endings t) (t .iterations)) 15 0))
+    (check (between (endings t) (mostIterations * endings t) (t .iterations)) 15 0))
 
 -- the tally with one answer of the decoder counted: a refusal is a block with no iterations
 abbrev pub counted : Tally → Result → Tally
@@ -51,14 +59,9 @@ abbrev pub tallyBy : ℕ → Tally → Result → Tally
 tallyBy zero t r = counted t r
 tallyBy (suc number) t r = t
 
--- ---- the promise of a tallied call: tally, answer, and each lent slice afterwards
+-- ---- the promise of a tallied call: answer, tally, and the lent slices afterwards
 
-pub record TalliedDecode (t : Tally) (s : Settings) (mask : List ℕ) (llr soft : List ℤ) (mark : List ℕ) (codedSoft : List ℤ) (codedMark : List ℕ) (work soft′ : List ℤ)
-    (mark′ : List ℕ) (codedSoft′ : List ℤ) (codedMark′ : List ℕ) (work′ : List ℤ) (r : Tallied) : Type 0 where
-  pub answer : resultOf (r .outcome) ≡ answerBy (tallyNumber t) (decodeResult s mask llr (roomOf soft mark codedSoft codedMark work) work)
-  pub tally-is : r .tally ≡ tallyBy (tallyNumber t) t (decodeResult s mask llr (roomOf soft mark codedSoft codedMark work) work)
-  pub soft-is : soft′ ≡ unlessRefused (tallyNumber t) (decodeSoft s mask llr (roomOf soft mark codedSoft codedMark work) work soft) soft
-  pub mark-is : mark′ ≡ unlessRefused (tallyNumber t) (decodeMark s mask llr (roomOf soft mark codedSoft codedMark work) work mark) mark
-  pub coded-soft-is : codedSoft′ ≡ unlessRefused (tallyNumber t) (decodeCodedSoft s mask llr (roomOf soft mark codedSoft codedMark work) work codedSoft) codedSoft
-  pub coded-mark-is : codedMark′ ≡ unlessRefused (tallyNumber t) (decodeCodedMark s mask llr (roomOf soft mark codedSoft codedMark work) work codedMark) codedMark
-  pub work-is : work′ ≡ unlessRefused (tallyNumber t) (decodeWork s mask llr (roomOf soft mark codedSoft codedMark work) work) work
+pub record TalliedDecode (t : Tally) (s : Settings) (mask : List ℕ) (llr : List ℤ) (before after : Slices) (r : Tallied) : Type 0 where
+  pub answer : resultOf (r .outcome) ≡ answerBy (tallyNumber t) (decodeResult s mask llr before)
+  pub tally-is : r .tally ≡ tallyBy (tallyNumber t) t (decodeResult s mask llr before)
+  pub slices : after ≡ unlessRefused (tallyNumber t) (decodeSlices s mask llr before) before

@@ -9,29 +9,29 @@ use lib.ListN.{length}
 use borrow.Author.Tests.{ltb-true, eqb-true, lt-ltb, eq-eqb, ne-eqb, le-leb}
 use Rattle.calls.specs.Numbers.{check, between}
 use Rattle.calls.specs.NumberLaws.{check-passed, between-passed}
-use Rattle.decoder.specs.Decoder.{Result, refused, ended, roomOf}
+use Rattle.decoder.specs.Decoder.{Result, refused, ended}
 use Rattle.tally.specs.declared.Tally.{Tally}
-use Rattle.tally.specs.Tally.{endings, tallyNumber, counted, answerBy, tallyBy}
+use Rattle.tally.specs.Tally.{endings, mostBlocks, mostIterations, tallyNumber, counted, answerBy, tallyBy}
 use Rattle.tally.specs.Runs.{Call, decoded, none, tallyAfter, answers, counts, others, countsOver}
-use Rattle.tally.specs.Working.{single, plus}
+use Rattle.tally.specs.Private.{single, plus}
 use Rattle.decoder.specs.ResultLaws.{DecoderAnswer, decoder-answer}
 
 -- ---- 15
 
 -- what 15 asks of a tally, as facts about its numbers
 pub record Usable (t : Tally) : Type 0 where
-  pub blocks-lt : t .blocks < 1000000
+  pub blocks-lt : t .blocks < mostBlocks
   pub blocks-sum : t .blocks ≡ endings t + t .refusals
   pub iterations-low : endings t ≤ t .iterations
-  pub iterations-high : t .iterations ≤ 200 * endings t
+  pub iterations-high : t .iterations ≤ mostIterations * endings t
 
 pub usable : (t : Tally) → tallyNumber t ≡ 0 → Usable t
 usable t h =
     let blocks = check-passed _ 14 _ h in
     let sum = check-passed _ 14 _ (blocks .1) in
-    let iterations = between-passed (endings t) (200 * endings t) (t .iterations) (check-passed _ 14 _ (sum .1) .0) in
+    let iterations = between-passed (endings t) (mostIterations * endings t) (t .iterations) (check-passed _ 14 _ (sum .1) .0) in
     record {
-      blocks-lt = ltb-true (t .blocks) 1000000 (blocks .0);
+      blocks-lt = ltb-true (t .blocks) mostBlocks (blocks .0);
       blocks-sum = eqb-true (t .blocks) (endings t + t .refusals) (sum .0);
       iterations-low = iterations .0;
       iterations-high = iterations .1;
@@ -40,10 +40,10 @@ usable t h =
 pub usable-number : (t : Tally) → Usable t → tallyNumber t ≡ 0
 usable-number t u =
     simp (
-      lt-ltb (t .blocks) 1000000 (u .blocks-lt),
+      lt-ltb (t .blocks) mostBlocks (u .blocks-lt),
       eq-eqb (t .blocks) (endings t + t .refusals) (u .blocks-sum),
       le-leb (endings t) (t .iterations) (u .iterations-low),
-      le-leb (t .iterations) (200 * endings t) (u .iterations-high),
+      le-leb (t .iterations) (mostIterations * endings t) (u .iterations-high),
     )
 
 -- the number is 0 or 15
@@ -56,9 +56,9 @@ three-tests false b c h = refl
 pub refused-15 : (t : Tally) → (tallyNumber t ≡ 0 → ⊥) → tallyNumber t ≡ 15
 refused-15 t h =
     three-tests
-    (ltb (t .blocks) 1000000)
+    (ltb (t .blocks) mostBlocks)
     (eqb (t .blocks) (endings t + t .refusals))
-    (between (endings t) (200 * endings t) (t .iterations))
+    (between (endings t) (mostIterations * endings t) (t .iterations))
     h
 
 pub unusable-number : (t : Tally) → (Usable t → ⊥) → tallyNumber t ≡ 15
@@ -79,7 +79,7 @@ single-usable (ended iteration (suc zero)) d = record { blocks-lt = omega arith;
 single-usable (ended iteration (suc (suc zero))) d = record { blocks-lt = omega arith; blocks-sum = refl; iterations-low = omega arith; iterations-high = omega arith }
 single-usable (ended iteration (suc (suc (suc n)))) d = absurd (omega arith)
 
-plus-usable : {t u : Tally} → Usable t → Usable u → t .blocks + u .blocks < 1000000 → Usable (plus t u)
+plus-usable : {t u : Tally} → Usable t → Usable u → t .blocks + u .blocks < mostBlocks → Usable (plus t u)
 plus-usable p q few =
     record { blocks-lt = few; blocks-sum = omega arith; iterations-low = omega arith; iterations-high = omega arith }
 
@@ -96,12 +96,11 @@ single-block (refused number) = refl
 single-block (ended iteration reason) = refl
 
 decoded-answer : (c : Call) → DecoderAnswer (decoded c)
-decoded-answer c =
-    decoder-answer (c .settings) (c .mask) (c .llr) (roomOf (c .soft) (c .mark) (c .codedSoft) (c .codedMark) (c .work)) (c .work)
+decoded-answer c = decoder-answer (c .settings) (c .mask) (c .llr) (c .slices)
 
 -- 15, "iterations below the endings or above 200 times them", and the sum: they stay so when the answer of a call is counted, up to the last
 -- block that 15 lets pass
-pub counted-usable : (t : Tally) (c : Call) → tallyNumber t ≡ 0 → t .blocks + 1 < 1000000 → tallyNumber (counted t (decoded c)) ≡ 0
+pub counted-usable : (t : Tally) (c : Call) → tallyNumber t ≡ 0 → t .blocks + 1 < mostBlocks → tallyNumber (counted t (decoded c)) ≡ 0
 counted-usable t c h few =
     let d = decoded-answer c in
     ap tallyNumber (counted-plus t (decoded c) d)
@@ -110,7 +109,7 @@ counted-usable t c h few =
 blocks-counted : (t : Tally) (c : Call) → counted t (decoded c) .blocks ≡ t .blocks + 1
 blocks-counted t c = ap (λ (u : Tally). u .blocks) (counted-plus t (decoded c) (decoded-answer c)) ∙ rw (single-block (decoded c))
 
-usable-after : (calls : List Call) (t : Tally) → tallyNumber t ≡ 0 → t .blocks + length calls < 1000000 → tallyNumber (tallyAfter t calls) ≡ 0
+usable-after : (calls : List Call) (t : Tally) → tallyNumber t ≡ 0 → t .blocks + length calls < mostBlocks → tallyNumber (tallyAfter t calls) ≡ 0
 usable-after [] t h few = h
 usable-after (c ∷ calls) t h few =
     let next = counted-usable t c h (omega arith) in
@@ -118,10 +117,10 @@ usable-after (c ∷ calls) t h few =
     ∙ usable-after calls (counted t (decoded c)) next (omega (arith, blocks-counted t c))
 
 -- 15, "blocks at or above 1,000,000": a run of fewer calls from five zeros leaves a tally that is usable
-pub run-usable : (calls : List Call) → length calls < 1000000 → tallyNumber (tallyAfter none calls) ≡ 0
+pub run-usable : (calls : List Call) → length calls < mostBlocks → tallyNumber (tallyAfter none calls) ≡ 0
 run-usable calls few = usable-after calls none refl (omega arith)
 
-answered-from : (calls : List Call) (t : Tally) → tallyNumber t ≡ 0 → t .blocks + length calls ≤ 1000000 → answers t calls ≡ map decoded calls
+answered-from : (calls : List Call) (t : Tally) → tallyNumber t ≡ 0 → t .blocks + length calls ≤ mostBlocks → answers t calls ≡ map decoded calls
 answered-from [] t h few = refl
 answered-from (c ∷ []) t h few = rw h
 answered-from (c ∷ d ∷ calls) t h few =
@@ -130,7 +129,7 @@ answered-from (c ∷ d ∷ calls) t h few =
     ∙ ap (λ (rs : List Result). decoded c ∷ rs) (answered-from (d ∷ calls) (counted t (decoded c)) next (omega (arith, blocks-counted t c)))
 
 -- in a run of up to 1,000,000 calls from five zeros none is refused with 15: each answer is the decoder's
-pub run-answered : (calls : List Call) → length calls ≤ 1000000 → answers none calls ≡ map decoded calls
+pub run-answered : (calls : List Call) → length calls ≤ mostBlocks → answers none calls ≡ map decoded calls
 run-answered calls few = answered-from calls none refl (omega arith)
 
 -- ---- counts

@@ -3,15 +3,21 @@
 // 15 refuses the tally, that nothing has changed.
 ghost use mathlib.Core.Path.{_≡_};
 ghost use Rattle.decoder.specs.Decoder.{resultOf};
+ghost use Rattle.settings.specs.Slices.{slices};
 ghost use Rattle.tally.specs.Tally.{tallyNumber, counted, TalliedDecode};
 ghost use Rattle.tally.specs.Runs.{none};
-ghost use Rattle.tally.specs.Working.{single, plus};
+ghost use Rattle.tally.specs.Private.{single, plus};
 ghost use Rattle.decoder.specs.ResultLaws.{DecoderAnswer};
 ghost use Rattle.tally.specs.TallyLaws.{Usable};
 use calls::Refusal;
 use decoder::Outcome;
 use decoder::Reason;
 use settings::Settings;
+
+// A tally takes fewer blocks than this, and its own test allows so many iterations for each ending.
+const MOST_BLOCKS: u64 = 1000000;
+
+const MOST_ITERATIONS: u64 = 200;
 
 // Blocks, endings by each reason, refusals and iterations so far.
 pub struct Tally {
@@ -50,7 +56,7 @@ impl Tally {
         let endings = self.by_criterion as u64 + self.by_limit as u64;
         let refusals = self.refusals as u64;
         let iterations = self.iterations as u64;
-        if 1000000 <= blocks {
+        if MOST_BLOCKS <= blocks {
             return 15;
         }
         if blocks != endings + refusals {
@@ -59,7 +65,7 @@ impl Tally {
         if iterations < endings {
             return 15;
         }
-        if 200 * endings < iterations {
+        if MOST_ITERATIONS * endings < iterations {
             return 15;
         }
         0
@@ -130,7 +136,12 @@ impl Tally {
         coded_mark: &mut [u8],
         work: &mut [i16],
     ) -> Tallied
-        ensures { λ r. ⌜ TalliedDecode self settings (now (mask .entry)) (now (llr .entry)) (now (soft .entry)) (now (mark .entry)) (now («coded_soft» .entry)) (now («coded_mark» .entry)) (now (work .entry)) (now (soft .exit)) (now (mark .exit)) (now («coded_soft» .exit)) (now («coded_mark» .exit)) (now (work .exit)) r ⌝ }
+        ensures { λ r. ⌜ TalliedDecode self settings (now (mask .entry)) (now (llr .entry))
+            (slices (now (soft .entry)) (now (mark .entry))
+            (now («coded_soft» .entry)) (now («coded_mark» .entry)) (now (work .entry)))
+            (slices (now (soft .exit)) (now (mark .exit))
+            (now («coded_soft» .exit)) (now («coded_mark» .exit)) (now (work .exit)))
+            r ⌝ }
     {
         if self.number() != 0 {
             return Tallied {

@@ -2,17 +2,24 @@
 use native.Mathlib.Omega.{arith}
 use borrow.Author.Needs.{needs}
 use denote.Ref.{now}
+use Rattle.settings.specs.Slices.{slices}
+use Rattle.capi.specs.Capi.{Lent, lent}
 use Rattle.capi.specs.CapiLaws.{settings-short, settings-long}
 use Rattle.capi.proofs.Promises.{call-refused, call-decoded}
 use Rattle.capi.proofs.vedrogne_decode.Statement.{statement}
 use Rattle.capi.proofs.vedrogne_decode.Tie as tie
 
+-- what is lent
+abbrev given : tie.Start → Lent
+given c =
+    let a = c .args in
+    lent (slices (now (a .soft)) (now (a .mark)) (now (a .coded-soft)) (now (a .coded-mark)) (now (a .work))) (now (a .iterations)) (now (a .reason))
+
 returns : tie.Need-returns
 returns c =
-    let a = c .before .before .before .before .before .args in
-    call-refused _ (now (a .settings)) (now (a .mask)) (now (a .llr)) (now (a .soft)) (now (a .mark)) (now (a .coded-soft)) (now (a .coded-mark)) (now (a .work))
-    (now (a .iterations)) (now (a .reason))
-    (settings-short (now (a .settings)) (omega arith))
+    let a = c .before .before .before .before .before in
+    call-refused _ (now (a .args .settings)) (now (a .args .mask)) (now (a .args .llr)) (given a)
+    (settings-short (now (a .args .settings)) (omega arith))
 
 settings-in-requires : tie.Need-settings-in-requires
 settings-in-requires c κs = search needs
@@ -42,10 +49,9 @@ returns-2 : tie.Need-returns-2
 returns-2 c =
     let d = c .before .before .before .before .before .before .before .before .before .before in
     let listed = d .before .before .before .before .before .before in
-    let a = listed .before .before .before .before .before .before .args in
-    call-decoded _ (now (a .settings)) (now (a .mask)) (now (a .llr)) (now (a .soft)) (now (a .mark)) (now (a .coded-soft)) (now (a .coded-mark)) (now (a .work))
-    (now (a .iterations)) (now (a .reason))
-    (settings-long (now (a .settings)) (omega (arith, listed .before .if1 .left))) (listed .settings-in .ensures) (d .decode .ensures) (c .result-out .ensures)
+    let a = listed .before .before .before .before .before .before in
+    call-decoded _ (now (a .args .settings)) (now (a .args .mask)) (now (a .args .llr)) (given a)
+    (settings-long (now (a .args .settings)) (omega (arith, listed .before .if1 .left))) (listed .settings-in .ensures) (d .decode .ensures) (c .result-out .ensures)
 
 pub vedrogne-decode-spec : {M : Type 1} → statement M
 vedrogne-decode-spec =

@@ -2,24 +2,30 @@
 use native.Mathlib.Omega.{arith}
 use borrow.Author.Needs.{needs}
 use denote.Ref.{now}
+use Rattle.settings.specs.Slices.{slices}
+use Rattle.capi.specs.Capi.{Lent, lent}
 use Rattle.capi.specs.CapiLaws.{tallied-short, tallied-settings-short, tallied-long}
 use Rattle.capi.proofs.Promises.{tallied-refused, tallied-counted}
 use Rattle.capi.proofs.vedrogne_decode_tallied.Statement.{statement}
 use Rattle.capi.proofs.vedrogne_decode_tallied.Tie as tie
 
+-- what is lent
+abbrev given : tie.Start → Lent
+given c =
+    let a = c .args in
+    lent (slices (now (a .soft)) (now (a .mark)) (now (a .coded-soft)) (now (a .coded-mark)) (now (a .work))) (now (a .iterations)) (now (a .reason))
+
 returns : tie.Need-returns
 returns c =
-    let a = c .before .before .before .before .before .before .args in
-    tallied-refused (now (a .tally)) (now (a .settings)) (now (a .mask)) (now (a .llr)) (now (a .soft)) (now (a .mark)) (now (a .coded-soft)) (now (a .coded-mark)) (now (a .work))
-    (now (a .iterations)) (now (a .reason))
-    (tallied-short (now (a .tally)) (now (a .settings)) (omega arith))
+    let a = c .before .before .before .before .before .before in
+    tallied-refused (now (a .args .tally)) (now (a .args .settings)) (now (a .args .mask)) (now (a .args .llr)) (given a)
+    (tallied-short (now (a .args .tally)) (now (a .args .settings)) (omega arith))
 
 returns-2 : tie.Need-returns-2
 returns-2 c =
-    let a = c .before .before .before .before .before .before .before .args in
-    tallied-refused (now (a .tally)) (now (a .settings)) (now (a .mask)) (now (a .llr)) (now (a .soft)) (now (a .mark)) (now (a .coded-soft)) (now (a .coded-mark)) (now (a .work))
-    (now (a .iterations)) (now (a .reason))
-    (tallied-settings-short (now (a .tally)) (now (a .settings)) (omega arith) (omega arith))
+    let a = c .before .before .before .before .before .before .before in
+    tallied-refused (now (a .args .tally)) (now (a .args .settings)) (now (a .args .mask)) (now (a .args .llr)) (given a)
+    (tallied-settings-short (now (a .args .tally)) (now (a .args .settings)) (omega arith) (omega arith))
 
 tally-in-requires : tie.Need-tally-in-requires
 tally-in-requires c κs = search needs
@@ -60,10 +66,9 @@ returns-3 c =
     let d = stored .before .before .before .before .before .before .before .before .before .before in
     let listed = d .before .before .before .before .before .before in
     let long = listed .before .before .before in
-    let a = long .before .before .before .before .before .before .before .args in
-    tallied-counted (now (a .tally)) (now (a .settings)) (now (a .mask)) (now (a .llr)) (now (a .soft)) (now (a .mark)) (now (a .coded-soft)) (now (a .coded-mark)) (now (a .work))
-    (now (a .iterations)) (now (a .reason))
-    (tallied-long (now (a .tally)) (now (a .settings)) (omega (arith, long .before .if1 .left)) (omega (arith, long .if2 .left))) (stored .tally-out .ensures) (c .result-out .ensures)
+    let a = long .before .before .before .before .before .before .before in
+    tallied-counted (now (a .args .tally)) (now (a .args .settings)) (now (a .args .mask)) (now (a .args .llr)) (given a)
+    (tallied-long (now (a .args .tally)) (now (a .args .settings)) (omega (arith, long .before .if1 .left)) (omega (arith, long .if2 .left))) (stored .tally-out .ensures) (c .result-out .ensures)
     (listed .before .tally-in .ensures) (listed .settings-in .ensures) (d .decode .ensures)
 
 pub vedrogne-decode-tallied-spec : {M : Type 1} → statement M

@@ -3,11 +3,16 @@ use mathlib.Core.Path.{_≡_}
 use native.Mathlib.Omega.{arith}
 use borrow.Author.Needs.{needs}
 use denote.Ref.{now}
+use Rattle.settings.specs.Slices.{Slices, slices}
 use Rattle.tally.specs.Tally.{tallyNumber}
 use Rattle.tally.specs.TallyLaws.{refused-15}
 use Rattle.tally.proofs.Promises.{tallied-refused, answered, tallied-decoded}
 use Rattle.tally.proofs.Tally.decode.Statement.{statement}
 use Rattle.tally.proofs.Tally.decode.Tie as tie
+
+-- the slices as they were lent
+abbrev lent : tie.Start → Slices
+lent c = let a = c .args in slices (now (a .soft)) (now (a .mark)) (now (a .coded-soft)) (now (a .coded-mark)) (now (a .work))
 
 module _ (c : tie.After-decode) where
   abbrev tested : tie.Else1
@@ -25,8 +30,9 @@ number-requires c κs = search needs
 returns : tie.Need-returns
 returns c =
     let number = c .before in
-    let a = number .before .before .before .before .args in
-    tallied-refused (a .self) (a .settings) (now (a .mask)) (now (a .llr)) (now (a .soft)) (now (a .mark)) (now (a .coded-soft)) (now (a .coded-mark)) (now (a .work))
+    let s = number .before .before .before .before in
+    let a = s .args in
+    tallied-refused (a .self) (a .settings) (now (a .mask)) (now (a .llr)) (lent s)
     (refused-15 (a .self) (λ e. omega (arith, number .number .ensures, c .if1 .taken)))
 
 decode-requires : tie.Need-decode-requires
@@ -37,7 +43,7 @@ counted-requires c κs =
     let d = c .before .before .before .before .before .before .before in
     let a = start d .args in (
       passed d,
-      answered (a .self) (a .settings) (now (a .mask)) (now (a .llr)) (now (a .soft)) (now (a .mark)) (now (a .coded-soft)) (now (a .coded-mark)) (now (a .work)) (d .decode .ensures),
+      answered (a .self) (a .settings) (now (a .mask)) (now (a .llr)) (lent (start d)) (d .decode .ensures),
     )
 
 same-length : tie.Need-same-length
@@ -59,7 +65,7 @@ returns-2 : tie.Need-returns-2
 returns-2 c =
     let d = c .before .before .before .before .before .before .before .before in
     let a = start d .args in
-    tallied-decoded (a .self) (a .settings) (now (a .mask)) (now (a .llr)) (now (a .soft)) (now (a .mark)) (now (a .coded-soft)) (now (a .coded-mark)) (now (a .work))
+    tallied-decoded (a .self) (a .settings) (now (a .mask)) (now (a .llr)) (lent (start d))
     (d .decode .ensures) (passed d) (c .counted .ensures)
 
 pub decode-spec : {M : Type 1} → statement M
