@@ -4,3 +4,7 @@ pub mod MemoryLaws
 pub mod NumberLaws
 pub mod Signs
 pub mod SignLaws
+pub mod Bits
+pub mod BitLaws
+pub mod Every
+pub mod EveryLaws

@@ -16,7 +16,7 @@ module _ {A : Type 0} where
   overwriteFrom (suc a) n g [] = []
   overwriteFrom (suc a) n g (x ∷ old) = x ∷ overwriteFrom a n g old
 
-  -- by the number of the call's answer
-  abbrev pub unlessRefused : ℕ → List A → List A → List A
+  -- what a call leaves, by the number of its answer: the new where it is accepted, the old where it is refused
+  abbrev pub unlessRefused : ℕ → A → A → A
   unlessRefused zero new old = new
   unlessRefused (suc number) new old = old

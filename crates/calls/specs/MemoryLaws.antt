@@ -1,11 +1,11 @@
--- Laws of `overwrite`: its length, its elements, and how it grows by one.
+-- Laws of lent memory: the length and the elements of an overwritten list, how it grows, and a slice after a call.
 use Prim.Native.Nat.{ℕ, zero, suc, _+_, _≤_, _<_}
 use mathlib.Core.Path.{_≡_, refl, ap, ap₂, _∙_}
 use mathlib.Core.List.{List, [], _∷_}
 use native.Mathlib.Nat.{le-of-suc-le-suc, not-suc-le-zero, add-zero, add-suc, zero-add, suc-add}
 use native.Mathlib.Omega.{arith}
 use lib.ListN.{length, getD, set}
-use Rattle.calls.specs.Memory.{overwrite, overwriteFrom}
+use Rattle.calls.specs.Memory.{overwrite, overwriteFrom, unlessRefused}
 
 module _ {A : Type 0} where
   pub length-overwrite : (n : ℕ) (g : ℕ → A) (l : List A) → length (overwrite n g l) ≡ length l
@@ -129,3 +129,29 @@ module _ {A : Type 0} where
   overwrite-more (suc n) k f g (x ∷ l) h =
       rw suc-add
       (ap (λ (r : List A). g 0 ∷ r) (overwrite-more n k f (λ i. g (suc i)) l (λ i q. h i q ∙ ap g (suc-add n i))))
+
+  -- the same from element a on
+  pub overwriteFrom-more : (a n k : ℕ) (f g : ℕ → A) (l : List A) → ((i : ℕ) → i < k → f i ≡ g (n + i))
+      → overwriteFrom (a + n) k f (overwriteFrom a n g l) ≡ overwriteFrom a (n + k) g l
+  overwriteFrom-more zero n k f g l h = rw zero-add (overwrite-more n k f g l h)
+  overwriteFrom-more (suc a) n k f g [] h = rw suc-add
+  overwriteFrom-more (suc a) n k f g (x ∷ l) h = rw suc-add (ap (λ (r : List A). x ∷ r) (overwriteFrom-more a n k f g l h))
+
+  -- a store before what is written
+  pub set-before : (a n : ℕ) (g : ℕ → A) (l : List A) (j : ℕ) (v : A) → j < a → set (overwriteFrom a n g l) j v ≡ overwriteFrom a n g (set l j v)
+  set-before zero n g l j v h = absurd (not-suc-le-zero h)
+  set-before (suc a) n g [] j v h = refl
+  set-before (suc a) n g (x ∷ l) zero v h = refl
+  set-before (suc a) n g (x ∷ l) (suc j) v h = ap (λ (r : List A). x ∷ r) (set-before a n g l j v (le-of-suc-le-suc h))
+
+  -- ---- a lent slice after a call: its length, and an element that an accepted call writes
+
+  pub length-after : (number n : ℕ) (g : ℕ → A) (old : List A)
+      → length (unlessRefused number (overwrite n g old) old) ≡ length old
+  length-after zero n g old = length-overwrite n g old
+  length-after (suc number) n g old = refl
+
+  pub new-at : (number n : ℕ) (g : ℕ → A) (old : List A) (i : ℕ) (z : A) → number ≡ 0 → i < n → n ≤ length old
+      → getD (unlessRefused number (overwrite n g old) old) i z ≡ g i
+  new-at zero n g old i z e h long = overwrite-at n g old i z h (omega arith)
+  new-at (suc number) n g old i z e h long = absurd (omega arith)

@@ -1,7 +1,6 @@
 -- What an accepted call tells of its tests, and the range of a refusal's number.
 use Prim.Native.Nat.{ℕ, zero, suc, _<_, _≤_}
 use mathlib.Core.Path.{_≡_, refl}
-use mathlib.Core.List.{List}
 use mathlib.Core.Bool.{Bool, true, false, _&&_}
 use native.Mathlib.Omega.{arith}
 use lib.Dec.{leb, lit<}
@@ -51,7 +50,7 @@ refusal-digits r = refusal-number r (λ n e h. omega arith)
 pub refused-first : (r : Refusal) (next : ℕ) → andThen (refusalNumber r) next ≡ refusalNumber r
 refused-first r next = refusal-number r (λ n e h. rw e)
 
-pub refused-keeps : {A : Type 0} (r : Refusal) (new old : List A) → unlessRefused (refusalNumber r) new old ≡ old
+pub refused-keeps : {A : Type 0} (r : Refusal) (new old : A) → unlessRefused (refusalNumber r) new old ≡ old
 refused-keeps r new old = refusal-number r (λ n e h. rw e)
 
 pub check-passed : (test : Bool) (number next : ℕ) → check test (suc number) next ≡ 0 → (test ≡ true) × (next ≡ 0)

@@ -4,11 +4,13 @@ use Prim.Native.Nat.{ℕ, zero, suc, _+_, _*_, _/_, _^_}
 use mathlib.Core.Bool.{Bool, true, false, not, _&&_, cond}
 use mathlib.Core.List.{List}
 use lib.Dec.{leb, eqb}
-use lib.IntN.{ℤ, pos, negℤ}
+use lib.IntN.{ℤ, pos}
 use lib.ListN.{length, getD}
 use lib.Ieee.{Float, nan, inf, fin, up, down, neg, mul, binary32}
 use Rattle.calls.specs.Numbers.{check, between}
+use Rattle.calls.specs.Every.{every}
 use Rattle.calls.specs.Memory.{overwrite, unlessRefused}
+use Rattle.calls.specs.Signs.{flipped}
 use Rattle.channel.specs.declared.Channel.{Channel}
 use Rattle.channel.specs.declared.Channel.the-variants.{Gaussian, Flipping, Erasing}
 
@@ -37,15 +39,11 @@ nearest n d = (2 * n + d) / (2 * d)
 abbrev pub roundedSize : ℕ → ℕ → ℕ → ℕ
 roundedSize C n d = cond (leb (C * d) n) C (nearest n d)
 
-abbrev pub signed : Bool → ℕ → ℤ
-signed false n = pos n
-signed true n = negℤ (pos n)
-
 -- an infinity, the product too large for the format, counts as beyond the ceiling. (No value of an accepted call is a NaN.)
 unfoldable pub quantised : ℕ → Float → ℤ
 quantised C nan = pos 0
-quantised C (inf s) = signed s C
-quantised C (fin s m e) = signed s (roundedSize C (m * up e) (down e))
+quantised C (inf s) = flipped s (pos C)
+quantised C (fin s m e) = flipped s (pos (roundedSize C (m * up e) (down e)))
 
 abbrev pub llrOf : ℕ → Channel → Float → ℤ
 llrOf C channel x = quantised C (valueOf C channel x)
@@ -71,8 +69,7 @@ isUsable Erasing = true
 
 -- the first n samples
 abbrev pub allFinite : ℕ → List Float → Bool
-allFinite zero samples = true
-allFinite (suc n) samples = allFinite n samples && isFinite (getD samples n nan)
+allFinite n samples = every n (λ i. isFinite (getD samples i nan))
 
 abbrev pub frontNumber : ℕ → ℕ → Channel → List Float → ℕ → ℕ
 frontNumber m C channel samples room =

@@ -17,13 +17,14 @@ use lib.Ieee.Nearest.{div-same}
 use borrow.Author.Tests.{leb-true, leb-false, le-leb, lt-leb}
 use Rattle.calls.specs.Memory.{overwrite, unlessRefused}
 use Rattle.calls.specs.Signs.{flipped}
+use Rattle.calls.specs.SignLaws.{size-flipped, flipped-xor}
+use Rattle.calls.specs.EveryLaws.{every-same}
 use Rattle.calls.specs.MemoryLaws.{length-overwrite, overwrite-same}
 use Rattle.channel.specs.Front.{
   withSign,
   valueOf,
   nearest,
   roundedSize,
-  signed,
   quantised,
   llrOf,
   isFinite,
@@ -72,16 +73,12 @@ rounded-zero (suc C) = simp (lt-leb (suc C * 1) 0 (omega arith))
 
 -- ---- no LLR is larger than the ceiling
 
-signed-bound : (s : Bool) (n C : ℕ) → n ≤ C → natAbs (signed s n) ≤ C
-signed-bound false n C h = h
-signed-bound true zero C h = zero-le
-signed-bound true (suc n) C h = h
-
 pub quantised-bound : (C : ℕ) (value : Float) → natAbs (quantised C value) ≤ C
 unfolding quantised
 quantised-bound C nan = zero-le
-quantised-bound C (inf s) = signed-bound s C C (le-refl C)
-quantised-bound C (fin s m e) = signed-bound s _ C (rounded-bound C (m * up e) (down e) (down-pos e))
+quantised-bound C (inf s) = rw (size-flipped s (pos C)) (le-refl C)
+quantised-bound C (fin s m e) =
+    rw (size-flipped s (pos (roundedSize C (m * up e) (down e)))) (rounded-bound C (m * up e) (down e) (down-pos e))
 
 mag-le : (z : ℤ) → mag z ≤ natAbs z
 mag-le (pos n) = le-refl n
@@ -99,15 +96,11 @@ llr-bound C channel x = quantised-mag C (valueOf C channel x)
 
 -- ---- a sample negated gives the LLR negated
 
-signed-odd : (s : Bool) (n : ℕ) → signed (not s) n ≡ negℤ (signed s n)
-signed-odd false n = refl
-signed-odd true n = sym (negℤ-negℤ (pos n))
-
 pub quantised-odd : (C : ℕ) (value : Float) → quantised C (neg value) ≡ negℤ (quantised C value)
 unfolding quantised neg
 quantised-odd C nan = refl
-quantised-odd C (inf s) = signed-odd s C
-quantised-odd C (fin s m e) = signed-odd s (roundedSize C (m * up e) (down e))
+quantised-odd C (inf s) = flipped-xor true s (pos C)
+quantised-odd C (fin s m e) = flipped-xor true s (pos (roundedSize C (m * up e) (down e)))
 
 -- the sign of a product goes through its rounding
 cond-neg : (b : Bool) (x y x′ y′ : Float) → x′ ≡ neg x → y′ ≡ neg y → cond b x′ y′ ≡ neg (cond b x y)
@@ -200,10 +193,8 @@ sample-negated (suc n) bit (x ∷ samples) (suc i) h = sample-negated n (λ j. b
 
 all-negated : (n k : ℕ) (bit : ℕ → Bool) (samples : List Float) → k ≤ n
     → allFinite k (negated n bit samples) ≡ allFinite k samples
-all-negated n zero bit samples h = refl
-all-negated n (suc k) bit samples h =
-    ap₂ (λ (a b : Bool). a && b) (all-negated n k bit samples (omega arith))
-    (ap isFinite (sample-negated n bit samples k h) ∙ finite-negated (bit k) (getD samples k nan))
+all-negated n k bit samples h =
+    every-same k _ _ (λ i l. ap isFinite (sample-negated n bit samples i (omega arith)) ∙ finite-negated (bit i) (getD samples i nan))
 
 -- the number of the answer stays
 pub front-number-negated : (m C : ℕ) (channel : Channel) (bit : ℕ → Bool) (samples : List Float) (room : ℕ)

@@ -13,7 +13,7 @@ use mir.Val.{SFits, toZ, ofZ}
 use mir.Facts.{toZ-ofZ}
 use Rattle.calls.specs.Signs.{isNegative, flipped}
 use Rattle.calls.specs.SignLaws.{size-neg}
-use Rattle.polar.specs.Code.{xor}
+use Rattle.calls.specs.Bits.{xor}
 use Rattle.message.specs.Message.{cut}
 use Rattle.message.specs.Working.{lesser, greater}
 

@@ -2,7 +2,7 @@
 use Prim.Native.Nat.{ℕ, _*_, _/_, min}
 use lib.IntN.{ℤ, pos, natAbs, _+ℤ_}
 use Rattle.calls.specs.Signs.{isNegative, flipped}
-use Rattle.polar.specs.Code.{xor}
+use Rattle.calls.specs.Bits.{xor}
 use Rattle.message.specs.declared.MinSum.{MinSum}
 
 -- cut to the range from -C to C

@@ -7,9 +7,9 @@ use native.Mathlib.Nat.{le-refl, mul-le-mul, mul-zero, one-mul, min-comm}
 use native.Mathlib.Omega.{arith}
 use lib.IntN.{ℤ, pos, negsuc, negℤ, natAbs, _+ℤ_, _*ℤ_, negℤ-negℤ, negℤ-+ℤ, +ℤ-comm, +ℤ-idr}
 use Rattle.calls.specs.Signs.{isNegative, flipped}
-use Rattle.calls.specs.SignLaws.{size-flipped, flipped-zero}
-use Rattle.polar.specs.Code.{xor}
-use Rattle.polar.specs.BitLaws.{xor-comm}
+use Rattle.calls.specs.Bits.{xor}
+use Rattle.calls.specs.BitLaws.{xor-comm}
+use Rattle.calls.specs.SignLaws.{size-flipped, flipped-zero, flipped-xor}
 use Rattle.message.specs.Message.{cut, add, f}
 use Rattle.message.specs.declared.MinSum.{MinSum}
 
@@ -19,12 +19,6 @@ pub record Tested (rule : MinSum) : Type 0 where
   pub ceiling-le : rule .ceiling ≤ 2047
   pub scale-some : 1 ≤ rule .scale
   pub scale-le : rule .scale ≤ 16
-
--- the product of two signs, one turned after the other
-pub flipped-xor : (s t : Bool) (z : ℤ) → flipped (xor s t) z ≡ flipped s (flipped t z)
-flipped-xor false t z = refl
-flipped-xor true false z = refl
-flipped-xor true true z = sym (negℤ-negℤ z)
 
 -- ---- the sum
 

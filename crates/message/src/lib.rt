@@ -1,5 +1,5 @@
 // The arithmetic of messages: scaled min-sum and the cut sum on signed 16-bit numbers of size at most the ceiling.
-// It sees `calls` and `polar`, and no criterion. It promises document 01's f and its sum, cut after the single addition. Its functions are
+// It sees `calls` alone. It promises document 01's f and its sum, cut after the single addition. Its functions are
 // offered to the crates above, which have tested ceiling and scale.
 ghost use mathlib.Core.Path.{_≡_};
 ghost use Prim.Native.Nat.{_*_, _/_, _^_, _<_, _≤_, min};

@@ -13,8 +13,9 @@ use lib.Seq.{getD-at}
 use borrow.Author.Tests.{le-leb, lt-leb, leb-true, leb-false}
 use Rattle.calls.specs.Memory.{overwrite}
 use Rattle.calls.specs.MemoryLaws.{length-overwrite, overwrite-store}
-use Rattle.polar.specs.Code.{byteOf, bitOf, byKind, informationCount, uBit, informationBytes, areBits}
-use Rattle.polar.specs.BitLaws.{byte-of-bit}
+use Rattle.calls.specs.Bits.{byteOf, bitOf}
+use Rattle.polar.specs.Code.{byKind, informationCount, uBit, informationBytes, areBits}
+use Rattle.calls.specs.BitLaws.{byte-of-bit}
 
 -- the larger of two is at most 1 where both are
 max-leb : (a b : ℕ) → leb (max a b) 1 ≡ leb a 1 && leb b 1

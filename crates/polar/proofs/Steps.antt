@@ -20,11 +20,20 @@ use Rattle.calls.specs.MemoryLaws.{
   overwriteFrom-behind,
   overwriteFrom-store,
 }
-use Rattle.polar.specs.Code.{xor, byteOf, bitOf, coded}
+use Rattle.calls.specs.Bits.{xor, byteOf, bitOf}
+use Rattle.polar.specs.Code.{coded}
 use Rattle.polar.specs.Columns.{digit, bySide, step, column}
-use Rattle.polar.specs.BitLaws.{byte-of-bit, xor-bytes}
+use Rattle.calls.specs.BitLaws.{byte-of-bit, xor-bytes}
 use Rattle.polar.specs.BlockLaws.{bitsOf, Bits, bits-own, bits-written, read-back}
-use Rattle.polar.specs.DigitLaws.{Multiple, multiple-none, multiple-next, run-digit, run-fits, upper-fits, step-same}
+use Rattle.polar.specs.DigitLaws.{
+  Multiple,
+  multiple-none,
+  multiple-next,
+  run-digit,
+  run-fits,
+  upper-fits,
+  step-same,
+}
 use Rattle.polar.specs.TransformLaws.{column-coded, coded-same}
 
 -- ---- a run: the first i positions from p on are joined with those d behind them

@@ -7,8 +7,8 @@ use native.Mathlib.Omega.{arith}
 use lib.ListN.{length, getD}
 use Rattle.calls.specs.Memory.{overwrite}
 use Rattle.calls.specs.MemoryLaws.{length-overwrite, overwrite-at, overwrite-same, overwrite-own}
-use Rattle.polar.specs.Code.{byteOf, bitOf}
-use Rattle.polar.specs.BitLaws.{byte-of-bit, bit-of-byte, byte-le}
+use Rattle.calls.specs.Bits.{byteOf, bitOf}
+use Rattle.calls.specs.BitLaws.{byte-of-bit, bit-of-byte, byte-le}
 
 abbrev pub bitsOf : List ℕ → ℕ → Bool
 bitsOf l i = bitOf (getD l i 0)

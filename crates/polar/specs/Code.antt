@@ -1,27 +1,15 @@
 -- Document 01, "The code", and the coder's and the read-out's lines of "Numbers by who causes them". Definitions only.
 use Prim.Native.Nat.{ℕ, zero, suc, _+_, _^_}
-use mathlib.Core.Bool.{Bool, true, false, not, _&&_}
+use mathlib.Core.Bool.{Bool, true, false, _&&_}
 use mathlib.Core.List.{List, [], _∷_, _++_}
 use lib.Bits.{bitAnd}
 use lib.Dec.{eqb, leb}
 use lib.ListN.{length, getD}
+use Rattle.calls.specs.Bits.{xor, byteOf, bitOf}
 use Rattle.calls.specs.Numbers.{check, andThen, between}
+use Rattle.calls.specs.Every.{every}
 use Rattle.calls.specs.Memory.{overwrite, unlessRefused}
 use Rattle.polar.specs.declared.Code.{Code}
-
--- ---- bits: `true` is 1. In memory a bit is a byte
-
-abbrev pub xor : Bool → Bool → Bool
-xor false b = b
-xor true b = not b
-
-abbrev pub byteOf : Bool → ℕ
-byteOf false = 0
-byteOf true = 1
-
-abbrev pub bitOf : ℕ → Bool
-bitOf zero = false
-bitOf (suc n) = true
 
 -- ---- the mask: one byte for each position, 1 frozen, 0 information
 
@@ -65,8 +53,7 @@ informationBytes mask bytes (suc n) = informationBytes mask bytes n ++ byKind (g
 
 -- the first n bytes are 0 or 1
 abbrev pub areBits : ℕ → List ℕ → Bool
-areBits zero l = true
-areBits (suc n) l = areBits n l && leb (getD l n 0) 1
+areBits n l = every n (λ i. leb (getD l i 0) 1)
 
 -- what both test of the code; `room` is the length of the slice of N elements beside the mask
 abbrev pub codeNumber : Code → List ℕ → ℕ → ℕ

@@ -3,22 +3,17 @@ use Prim.Native.Nat.{ℕ, zero, suc, _^_, _≤_, _<_}
 use mathlib.Core.Path.{_≡_, refl}
 use mathlib.Core.Bool.{Bool, true, _&&_}
 use mathlib.Core.List.{List}
-use mathlib.Core.Logic.{⊎-elim}
-use native.Mathlib.Nat.{eq-or-lt-of-le, le-of-suc-le-suc}
-use native.Mathlib.Omega.{arith}
 use lib.Dec.{leb}
 use lib.ListN.{length, getD}
 use borrow.Author.Tests.{leb-true}
+use Rattle.calls.specs.EveryLaws.{every-at}
 use Rattle.calls.specs.Numbers.{check}
 use Rattle.calls.specs.NumberLaws.{check-passed, both-passed, and-passed, between-passed}
 use Rattle.polar.specs.declared.Code.{Code}
 use Rattle.polar.specs.Code.{informationCount, areBits, codeNumber, messageNumber, encodeNumber, readOutNumber}
 
 pub bits-at : (n : ℕ) (l : List ℕ) → areBits n l ≡ true → (i : ℕ) → i < n → getD l i 0 ≤ 1
-bits-at zero l h i q = absurd (omega arith)
-bits-at (suc n) l h i q =
-    let both = and-passed (areBits n l) (leb (getD l n 0) 1) h in
-    ⊎-elim (λ e. rw e (leb-true (getD l n 0) 1 (both .1))) (λ q. bits-at n l (both .0) i q) (eq-or-lt-of-le (le-of-suc-le-suc q))
+bits-at n l h i q = leb-true (getD l i 0) 1 (every-at n i (λ j. leb (getD l j 0) 1) h q)
 
 pub record CodeAccepted (code : Code) (mask : List ℕ) (room : ℕ) : Type 0 where
   pub some : 1 ≤ code .m

@@ -10,11 +10,26 @@ use lib.Dec.{leb}
 use lib.ListN.{length, getD, take}
 use lib.Seq.{take-suc, getD-take}
 use borrow.Author.Tests.{le-leb}
+use Rattle.calls.specs.EveryLaws.{every-of}
 use Rattle.calls.specs.Memory.{overwrite, unlessRefused}
 use Rattle.calls.specs.MemoryLaws.{length-overwrite, overwrite-same}
 use Rattle.polar.specs.declared.Code.{Code}
-use Rattle.polar.specs.Code.{xor, byteOf, bitOf, byKind, informationCount, uBit, coded, informationBytes, areBits, codeNumber, messageNumber, encodeNumber, encodeBlock, readOutNumber, readOutMessage}
-use Rattle.polar.specs.BitLaws.{byte-of-bit}
+use Rattle.calls.specs.Bits.{xor, byteOf, bitOf}
+use Rattle.polar.specs.Code.{
+  byKind,
+  informationCount,
+  uBit,
+  coded,
+  informationBytes,
+  areBits,
+  codeNumber,
+  messageNumber,
+  encodeNumber,
+  encodeBlock,
+  readOutNumber,
+  readOutMessage,
+}
+use Rattle.calls.specs.BitLaws.{byte-of-bit}
 use Rattle.polar.specs.BlockLaws.{bitsOf, Bits, bits-written, read-back}
 use Rattle.polar.specs.CodeLaws.{bits-at, CodeAccepted, MessageAccepted, encode-accepted}
 use Rattle.polar.specs.TransformLaws.{coded-xor, coded-same, coded-twice}
@@ -22,8 +37,7 @@ use Rattle.polar.specs.TransformLaws.{coded-xor, coded-same, coded-twice
 -- ---- a call is accepted where what its tests ask holds
 
 all-bits : (n : ℕ) (l : List ℕ) → ((i : ℕ) → i < n → getD l i 0 ≤ 1) → areBits n l ≡ true
-all-bits zero l h = refl
-all-bits (suc n) l h = rw (all-bits n l (λ i q. h i (omega arith))) (le-leb (getD l n 0) 1 (h n (omega arith)))
+all-bits n l h = every-of n (λ i. leb (getD l i 0) 1) (λ i q. le-leb (getD l i 0) 1 (h i q))
 
 code-passes : {code : Code} {mask : List ℕ} {room : ℕ} → CodeAccepted code mask room → codeNumber code mask room ≡ 0
 code-passes h =

@@ -2,7 +2,7 @@
 -- (`column-coded` of TransformLaws), and the decoder's message for a position of column s stands for the bit there. Definitions only.
 use Prim.Native.Nat.{ℕ, zero, suc, _+_, _-_, _/_, _%_, _^_}
 use mathlib.Core.Bool.{Bool}
-use Rattle.polar.specs.Code.{xor}
+use Rattle.calls.specs.Bits.{xor}
 
 -- the binary digit of i of weight 2 ^ t
 abbrev pub digit : ℕ → ℕ → ℕ

@@ -6,7 +6,7 @@ use native.Mathlib.Nat.{zero-mul, one-mul, suc-mul, add-mul, mul-le-mul-right, d
 use native.Mathlib.Omega.{arith}
 use lib.Bits.{bitAnd, and-high}
 use lib.Pow.{pow-pos, pow-add, high, split, shl-shr}
-use Rattle.polar.specs.Code.{xor}
+use Rattle.calls.specs.Bits.{xor}
 use Rattle.polar.specs.Columns.{digit, bySide, step}
 
 pub digit-cases : (t i : ℕ) {A : Type 0} → (digit t i ≡ 0 → A) → (digit t i ≡ 1 → A) → A

@@ -1,6 +1,6 @@
 pub mod Code
 pub mod Columns
-pub mod BitLaws
+pub mod ParityLaws
 pub mod TransformLaws
 pub mod CodeLaws
 pub mod DigitLaws

@@ -11,9 +11,11 @@ use lib.Bits.{bitAnd, and-block}
 use lib.Dec.{eqb}
 use lib.Pow.{shr-shr}
 use borrow.Author.Tests.{eq-eqb, ne-eqb, eqb-true, eqb-false}
-use Rattle.polar.specs.Code.{xor, parity, includes, coded}
+use Rattle.calls.specs.Bits.{xor}
+use Rattle.polar.specs.Code.{parity, includes, coded}
 use Rattle.polar.specs.Columns.{digit, bySide, step, column}
-use Rattle.polar.specs.BitLaws.{xor-cancel, and-xor, parity-same, parity-none, parity-xor, parity-halves}
+use Rattle.calls.specs.BitLaws.{xor-cancel, and-xor}
+use Rattle.polar.specs.ParityLaws.{parity-same, parity-none, parity-xor, parity-halves}
 
 -- the even positions (r = 0) or the odd ones (r = 1)
 abbrev half : ℕ → (ℕ → Bool) → ℕ → Bool

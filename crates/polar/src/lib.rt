@@ -5,7 +5,20 @@ ghost use Prim.Native.Nat.{_+_, _<_, _≤_, _^_, max};
 ghost use lib.ListN.{length, getD};
 ghost use Rattle.calls.specs.Numbers.{numberOf};
 ghost use Rattle.calls.specs.Memory.{overwrite, overwriteFrom};
-ghost use Rattle.polar.specs.Code.{byteOf, informationCount, uBit, coded, informationBytes, areBits, codeNumber, messageNumber, encodeNumber, encodeBlock, readOutNumber, readOutMessage};
+ghost use Rattle.calls.specs.Bits.{byteOf};
+ghost use Rattle.polar.specs.Code.{
+  informationCount,
+  uBit,
+  coded,
+  informationBytes,
+  areBits,
+  codeNumber,
+  messageNumber,
+  encodeNumber,
+  encodeBlock,
+  readOutNumber,
+  readOutMessage,
+};
 ghost use Rattle.polar.specs.Columns.{step};
 ghost use Rattle.polar.specs.CodeLaws.{MessageAccepted};
 ghost use Rattle.polar.specs.BlockLaws.{bitsOf, Bits};

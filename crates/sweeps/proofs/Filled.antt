@@ -13,12 +13,19 @@ use lib.ListN.{length, set}
 use lib.Pow.{pow-pos, pow-lt, pow-mono}
 use borrow.Author.Tests.{eq-eqb, ne-eqb}
 use Rattle.calls.specs.Memory.{overwriteFrom}
-use Rattle.calls.specs.MemoryLaws.{length-overwriteFrom, overwriteFrom-none, overwriteFrom-before, overwriteFrom-behind, overwriteFrom-store}
+use Rattle.calls.specs.MemoryLaws.{
+  length-overwriteFrom,
+  overwriteFrom-none,
+  overwriteFrom-before,
+  overwriteFrom-behind,
+  overwriteFrom-store,
+  overwriteFrom-more,
+}
 use Rattle.polar.specs.DigitLaws.{digit-cases, masked, weight-le, partner-lt}
 use Rattle.message.specs.declared.MinSum.{MinSum}
 use Rattle.message.specs.Message.{add, f}
 use Rattle.sweeps.specs.Workspace.{row, setRow, workspaceLength}
-use Rattle.sweeps.specs.WorkspaceLaws.{row-lt, overwriteFrom-more}
+use Rattle.sweeps.specs.WorkspaceLaws.{row-lt}
 use Rattle.sweeps.specs.IterationLaws.{Ready, ready-written, joined-size}
 use Rattle.sweeps.specs.Working.{messageAt, newAt, Readable, joinedAt, rowPart, rowStep, Rows}
 

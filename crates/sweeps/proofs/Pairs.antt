@@ -9,12 +9,18 @@ use lib.IntN.{ℤ, natAbs}
 use lib.ListN.{length, set}
 use lib.Pow.{pow-pos, shl-shr}
 use Rattle.calls.specs.Memory.{overwriteFrom}
-use Rattle.calls.specs.MemoryLaws.{length-overwriteFrom, overwriteFrom-none, overwriteFrom-store}
+use Rattle.calls.specs.MemoryLaws.{
+  length-overwriteFrom,
+  overwriteFrom-none,
+  overwriteFrom-store,
+  overwriteFrom-more,
+  set-before,
+}
 use Rattle.polar.specs.Columns.{digit, bySide}
 use Rattle.polar.specs.DigitLaws.{Multiple, multiple-none, multiple-next, digit-cases, run-digit, run-fits, upper-fits}
 use Rattle.message.specs.declared.MinSum.{MinSum}
 use Rattle.sweeps.specs.Workspace.{row}
-use Rattle.sweeps.specs.WorkspaceLaws.{row-lt, overwriteFrom-more, set-before}
+use Rattle.sweeps.specs.WorkspaceLaws.{row-lt}
 use Rattle.sweeps.specs.IterationLaws.{Ready, ready-written, joined-size}
 use Rattle.sweeps.specs.Working.{upperAt, lowerAt, Readable, joinedAt, rowPart, rowStep, Rows, UpperRun}
 use Rattle.sweeps.proofs.Filled.{row-apart, joined-kept, Filled, filled-none, filled-part, filled-all, readable}

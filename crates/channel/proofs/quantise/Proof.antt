@@ -1,4 +1,4 @@
-use Prim.Native.Nat.{_≤_, _%_, _/_, _^_}
+use Prim.Native.Nat.{ℕ, _≤_, _%_, _/_, _^_}
 use mathlib.Core.Path.{_≡_, sym, ap₂, _∙_, subst}
 use mathlib.Core.Bool.{Bool, true, false}
 use native.Mathlib.Omega.{arith}
@@ -11,7 +11,8 @@ use mir.Val.{toZ}
 use mir.Facts.{toZ-pos}
 use borrow.Author.Needs.{needs}
 use borrow.Author.Tests.{le-leb, lt-leb}
-use Rattle.channel.specs.Front.{signed, quantised}
+use Rattle.calls.specs.Signs.{flipped}
+use Rattle.channel.specs.Front.{quantised}
 use Rattle.channel.specs.Working.{fieldUnits}
 use Rattle.channel.specs.FrontLaws.{rounded-bound}
 use Rattle.channel.proofs.Fields.{quantised-bits}
@@ -31,10 +32,10 @@ held c = toZ-pos w16 (omega (arith, small c))
 
 -- with the sign that the test finds
 ends : (c : tie.After-rounded-size) (s : Bool) → leb 2147483648 (toBits binary32 (c .before .args .value)) ≡ s
-    → signed s (c .rounded-size .result) ≡ quantised (c .before .args .ceiling) (c .before .args .value)
+    → flipped s (pos (c .rounded-size .result)) ≡ quantised (c .before .args .ceiling) (c .before .args .value)
 ends c s e =
     let a = c .before .args in
-    ap₂ signed (sym e) (c .rounded-size .ensures)
+    ap₂ (λ (t : Bool) (n : ℕ). flipped t (pos n)) (sym e) (c .rounded-size .ensures)
     ∙ sym (quantised-bits (a .ceiling) (a .value) (omega arith) (subst T (sym (c .before .good .0 .1)) tt) (c .before .pre .0))
 
 float-to-bits-bits : tie.Need-float-to-bits-bits

@@ -8,7 +8,8 @@ use lib.ListN.{length}
 use Rattle.calls.specs.Memory.{overwrite}
 use Rattle.calls.specs.Numbers.{numberOf}
 use Rattle.calls.specs.NumberLaws.{refused-keeps}
-use Rattle.polar.specs.Code.{byteOf, encodeNumber, informationCount, uBit}
+use Rattle.calls.specs.Bits.{byteOf}
+use Rattle.polar.specs.Code.{encodeNumber, informationCount, uBit}
 use Rattle.polar.specs.BlockLaws.{bits-written}
 use Rattle.polar.specs.CodeLaws.{CodeAccepted, MessageAccepted, encode-accepted}
 use Rattle.polar.proofs.Steps.{placed-coded}

@@ -24,7 +24,9 @@ module _ (c : tie.In-loop Inv-loop μ-loop) (z : getD (c .before .before .args .
       rw (at .loop .inv .1 .count) (count-lt (at .before .args .mask .now) (at .loop .i) (at .before .args .n) z (omega arith))
 
   is-bit : getD (c .before .before .args .message .now) (c .before .loop .used) 0 ≤ 1
-  is-bit = bits-at _ _ (c .before .before .pre .1 .bits) _ in-message
+  is-bit =
+      let args = c .before .before .args in
+      bits-at (informationCount (args .mask .now) (args .n)) (args .message .now) (c .before .before .pre .1 .bits) _ in-message
 
 in-block : (c : tie.At-loop Inv-loop μ-loop) → length (c .loop .block) ≡ length (c .before .args .block .now)
 in-block c = placed-length (c .loop .inv .1)
