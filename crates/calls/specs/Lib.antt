@@ -8,3 +8,4 @@ pub mod Bits
 pub mod BitLaws
 pub mod Every
 pub mod EveryLaws
+pub mod Bounds

@@ -13,6 +13,7 @@ use lib.Ieee.Exact.{HasValue, odd-sign}
 use lib.Ieee.Fits.{down-pos}
 use lib.Ieee.Bits.{ofBits-toBits}
 use borrow.Author.Tests.{le-leb, lt-leb, eqb-true}
+use Rattle.calls.specs.Bounds.{largestCeiling}
 use Rattle.calls.specs.Signs.{flipped}
 use Rattle.channel.specs.Front.{nearest, roundedSize, quantised}
 use Rattle.channel.specs.Working.{fieldUnits}
@@ -44,7 +45,7 @@ units-above (suc x) digits l =
     mul-le-mul {n₁ = 2 ^ 23} {m₁ = 2 ^ 137} {n₂ = 2 ^ 23 + digits} {m₂ = 2 ^ x} (le-add-right (2 ^ 23) digits)
     (pow-mono {i = 137} {j = x} (omega arith))
 
-pub size-above : (C field digits : ℕ) → C ≤ 2047 → 138 ≤ field → C ≡ roundedSize C (fieldUnits field digits) (2 ^ 149)
+pub size-above : (C field digits : ℕ) → C ≤ largestCeiling → 138 ≤ field → C ≡ roundedSize C (fieldUnits field digits) (2 ^ 149)
 size-above C field digits h l =
     sym (ap (λ (t : Bool). cond t C (nearest (fieldUnits field digits) (2 ^ 149)))
     (le-leb (C * 2 ^ 149) (fieldUnits field digits)
@@ -99,7 +100,7 @@ quantised-of C nan s a c h v = absurd v
 quantised-of C (inf t) s a c h v = absurd v
 quantised-of C (fin t m e) s a c h v = ap₂ (λ (t : Bool) (n : ℕ). flipped t (pos n)) (v .0) (rounded-same C (m * up e) (down e) a c (down-pos e) h (v .1))
 
-of-fields : (C : ℕ) (s : Bool) (field digits : ℕ) → C ≤ 2047 → T (not (isNan (ofFields binary32 s field digits)))
+of-fields : (C : ℕ) (s : Bool) (field digits : ℕ) → C ≤ largestCeiling → T (not (isNan (ofFields binary32 s field digits)))
     → quantised C (ofFields binary32 s field digits) ≡ flipped s (pos (roundedSize C (fieldUnits field digits) (2 ^ 149)))
 unfolding ofFields fieldUnits isNan quantised
 of-fields C s zero digits h k =
@@ -124,12 +125,12 @@ of-fields C s (suc x) digits h k = by-field (eqb (suc x) 255) refl (eqb digits 0
 abbrev pub sizeOf : ℕ → ℕ → ℕ
 sizeOf C bits = roundedSize C (fieldUnits (bits % 2147483648 / 8388608) (bits % 8388608)) (2 ^ 149)
 
-of-bits : (C bits : ℕ) → C ≤ 2047 → T (not (isNan (ofBits binary32 bits)))
+of-bits : (C bits : ℕ) → C ≤ largestCeiling → T (not (isNan (ofBits binary32 bits)))
     → quantised C (ofBits binary32 bits) ≡ flipped (leb 2147483648 bits) (pos (sizeOf C bits))
 unfolding ofBits
 of-bits C bits h k = of-fields C (leb 2147483648 bits) (bits % 2147483648 / 8388608) (bits % 8388608) h k
 
-pub quantised-bits : (C : ℕ) (x : Float) → C ≤ 2047 → T (fits binary32 x) → T (not (isNan x))
+pub quantised-bits : (C : ℕ) (x : Float) → C ≤ largestCeiling → T (fits binary32 x) → T (not (isNan x))
     → quantised C x ≡ flipped (leb 2147483648 (toBits binary32 x)) (pos (sizeOf C (toBits binary32 x)))
 quantised-bits C x h k n =
     let e : ofBits binary32 (toBits binary32 x) ≡ x = ofBits-toBits binary32 x k in

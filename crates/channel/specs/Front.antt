@@ -7,6 +7,7 @@ use lib.Dec.{leb, eqb}
 use lib.IntN.{ℤ, pos}
 use lib.ListN.{length, getD}
 use lib.Ieee.{Float, nan, inf, fin, up, down, neg, mul, binary32}
+use Rattle.calls.specs.Bounds.{largestM, largestCeiling}
 use Rattle.calls.specs.Numbers.{check, between}
 use Rattle.calls.specs.Every.{every}
 use Rattle.calls.specs.Memory.{overwrite, unlessRefused}
@@ -73,8 +74,8 @@ allFinite n samples = every n (λ i. isFinite (getD samples i nan))
 
 abbrev pub frontNumber : ℕ → ℕ → Channel → List Float → ℕ → ℕ
 frontNumber m C channel samples room =
-    check (between 1 10 m) 1
-    (check (between 1 2047 C) 2
+    check (between 1 largestM m) 1
+    (check (between 1 largestCeiling C) 2
     (check (leb (2 ^ m) (length samples) && leb (2 ^ m) room) 7
     (check (isUsable channel) 11
     (check (allFinite (2 ^ m) samples) 12 0))))

@@ -8,6 +8,7 @@ use native.Mathlib.Omega.{arith}
 use lib.IntN.{ℤ, pos, negsuc, negℤ, natAbs, _+ℤ_, _*ℤ_, negℤ-negℤ, negℤ-+ℤ, +ℤ-comm, +ℤ-idr}
 use Rattle.calls.specs.Signs.{isNegative, flipped}
 use Rattle.calls.specs.Bits.{xor}
+use Rattle.calls.specs.Bounds.{largestCeiling, largestScale}
 use Rattle.calls.specs.BitLaws.{xor-comm}
 use Rattle.calls.specs.SignLaws.{size-flipped, flipped-zero, flipped-xor}
 use Rattle.message.specs.Message.{cut, add, f}
@@ -16,9 +17,9 @@ use Rattle.message.specs.declared.MinSum.{MinSum}
 -- ceiling and scale within their ranges
 pub record Tested (rule : MinSum) : Type 0 where
   pub some : 1 ≤ rule .ceiling
-  pub ceiling-le : rule .ceiling ≤ 2047
+  pub ceiling-le : rule .ceiling ≤ largestCeiling
   pub scale-some : 1 ≤ rule .scale
-  pub scale-le : rule .scale ≤ 16
+  pub scale-le : rule .scale ≤ largestScale
 
 -- ---- the sum
 
@@ -55,16 +56,16 @@ pub f-size-is : (rule : MinSum) (a b : ℤ) → natAbs (f rule a b) ≡ rule .sc
 unfolding f
 f-size-is rule a b = simp size-flipped
 
-f-size-min : (rule : MinSum) (a b : ℤ) → rule .scale ≤ 16 → natAbs (f rule a b) ≤ min (natAbs a) (natAbs b)
+f-size-min : (rule : MinSum) (a b : ℤ) → rule .scale ≤ largestScale → natAbs (f rule a b) ≤ min (natAbs a) (natAbs b)
 f-size-min rule a b h =
     let m = min (natAbs a) (natAbs b) in
     let product : rule .scale * m ≤ 16 * m = mul-le-mul h (le-refl m) in
     rw (f-size-is rule a b) (omega arith)
 
-pub f-size : (rule : MinSum) (a b : ℤ) → rule .scale ≤ 16 → natAbs (f rule a b) ≤ natAbs a
+pub f-size : (rule : MinSum) (a b : ℤ) → rule .scale ≤ largestScale → natAbs (f rule a b) ≤ natAbs a
 f-size rule a b h = omega (arith, f-size-min rule a b h)
 
-pub f-size-second : (rule : MinSum) (a b : ℤ) → rule .scale ≤ 16 → natAbs (f rule a b) ≤ natAbs b
+pub f-size-second : (rule : MinSum) (a b : ℤ) → rule .scale ≤ largestScale → natAbs (f rule a b) ≤ natAbs b
 f-size-second rule a b h = omega (arith, f-size-min rule a b h)
 
 pub f-comm : (rule : MinSum) (a b : ℤ) → f rule a b ≡ f rule b a

@@ -2,8 +2,9 @@
 // It sees `calls` alone. It promises document 01's f and its sum, cut after the single addition. Its functions are
 // offered to the crates above, which have tested ceiling and scale.
 ghost use mathlib.Core.Path.{_≡_};
-ghost use Prim.Native.Nat.{_*_, _/_, _^_, _<_, _≤_, min};
+ghost use Prim.Native.Nat.{_*_, _/_, _^_, _<_, _≤_};
 ghost use lib.IntN.{pos, natAbs};
+ghost use Rattle.calls.specs.Bounds.{largestCeiling, largestScale};
 ghost use Rattle.calls.specs.Signs.{isNegative, flipped};
 ghost use Rattle.message.specs.Message.{add, f};
 ghost use Rattle.message.specs.MessageLaws.{Tested};
@@ -43,21 +44,8 @@ fn is_negative(a: i16) -> bool
     a < 0
 }
 
-fn size_of(a: i16) -> u16
-    requires { ⌜ natAbs a ≤ 2047 ⌝ }
-    ensures { λ r. ⌜ r ≡ natAbs a ⌝ }
-{
-    if a < 0 { -a as u16 } else { a as u16 }
-}
-
-fn smaller_size(x: u16, y: u16) -> u16
-    ensures { λ r. ⌜ r ≡ min x y ⌝ }
-{
-    if x < y { x } else { y }
-}
-
 fn scaled(scale: u16, size: u16) -> u16
-    requires { ⌜ (scale ≤ 16) × (size ≤ 2047) ⌝ }
+    requires { ⌜ (scale ≤ largestScale) × (size ≤ largestCeiling) ⌝ }
     ensures { λ r. ⌜ r ≡ scale * size / 16 ⌝ }
 {
     scale * size / 16
@@ -79,6 +67,6 @@ pub fn min_sum(rule: MinSum, a: i16, b: i16) -> i16
     ensures { λ r. ⌜ r ≡ f rule a b ⌝ }
 {
     let scale = rule.scale;
-    let size = scaled(scale, smaller_size(size_of(a), size_of(b)));
+    let size = scaled(scale, calls::smaller(calls::size(a), calls::size(b)));
     with_sign(is_negative(a) != is_negative(b), size)
 }

@@ -5,6 +5,7 @@ use mathlib.Core.List.{List, [], _∷_, _++_}
 use lib.Bits.{bitAnd}
 use lib.Dec.{eqb, leb}
 use lib.ListN.{length, getD}
+use Rattle.calls.specs.Bounds.{largestM}
 use Rattle.calls.specs.Bits.{xor, byteOf, bitOf}
 use Rattle.calls.specs.Numbers.{check, andThen, between}
 use Rattle.calls.specs.Every.{every}
@@ -58,7 +59,7 @@ areBits n l = every n (λ i. leb (getD l i 0) 1)
 -- what both test of the code; `room` is the length of the slice of N elements beside the mask
 abbrev pub codeNumber : Code → List ℕ → ℕ → ℕ
 codeNumber code mask room =
-    check (between 1 10 (code .m)) 1
+    check (between 1 largestM (code .m)) 1
     (check (leb (2 ^ code .m) (length mask) && leb (2 ^ code .m) room) 7
     (check (areBits (2 ^ code .m) mask) 8
     (check (leb 1 (informationCount mask (2 ^ code .m))) 9 0)))

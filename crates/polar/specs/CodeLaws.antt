@@ -6,6 +6,7 @@ use mathlib.Core.List.{List}
 use lib.Dec.{leb}
 use lib.ListN.{length, getD}
 use borrow.Author.Tests.{leb-true}
+use Rattle.calls.specs.Bounds.{largestM}
 use Rattle.calls.specs.EveryLaws.{every-at}
 use Rattle.calls.specs.Numbers.{check}
 use Rattle.calls.specs.NumberLaws.{check-passed, both-passed, and-passed, between-passed}
@@ -17,7 +18,7 @@ bits-at n l h i q = leb-true (getD l i 0) 1 (every-at n i (λ j. leb (getD l j 0
 
 pub record CodeAccepted (code : Code) (mask : List ℕ) (room : ℕ) : Type 0 where
   pub some : 1 ≤ code .m
-  pub size : code .m ≤ 10
+  pub size : code .m ≤ largestM
   pub mask-long : 2 ^ code .m ≤ length mask
   pub room-long : 2 ^ code .m ≤ room
   pub values : areBits (2 ^ code .m) mask ≡ true
@@ -29,7 +30,7 @@ code-accepted code mask room h =
     let seven = check-passed _ 6 _ (one .1) in
     let eight = check-passed _ 7 _ (seven .1) in
     let nine = check-passed _ 8 _ (eight .1) in
-    let m = between-passed 1 10 (code .m) (one .0) in
+    let m = between-passed 1 largestM (code .m) (one .0) in
     let long = and-passed _ _ (seven .0) in
     record {
       some = m .0;

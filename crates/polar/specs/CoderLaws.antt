@@ -10,6 +10,7 @@ use lib.Dec.{leb}
 use lib.ListN.{length, getD, take}
 use lib.Seq.{take-suc, getD-take}
 use borrow.Author.Tests.{le-leb}
+use Rattle.calls.specs.Bounds.{largestM}
 use Rattle.calls.specs.EveryLaws.{every-of}
 use Rattle.calls.specs.Memory.{overwrite, unlessRefused}
 use Rattle.calls.specs.MemoryLaws.{length-overwrite, overwrite-same}
@@ -41,7 +42,7 @@ all-bits n l h = every-of n (λ i. leb (getD l i 0) 1) (λ i q. le-leb (getD l i
 
 code-passes : {code : Code} {mask : List ℕ} {room : ℕ} → CodeAccepted code mask room → codeNumber code mask room ≡ 0
 code-passes h =
-    simp (le-leb 1 _ (h .some), le-leb _ 10 (h .size), le-leb _ _ (h .mask-long), le-leb _ _ (h .room-long), h .values, le-leb 1 _ (h .information))
+    simp (le-leb 1 _ (h .some), le-leb _ largestM (h .size), le-leb _ _ (h .mask-long), le-leb _ _ (h .room-long), h .values, le-leb 1 _ (h .information))
 
 -- the same code with other room
 with-room : {code : Code} {mask : List ℕ} {room : ℕ} → CodeAccepted code mask room → (other : ℕ) → 2 ^ code .m ≤ other → CodeAccepted code mask other

@@ -3,6 +3,7 @@
 ghost use mathlib.Core.Path.{_≡_};
 ghost use Prim.Native.Nat.{_+_, _<_, _≤_, _^_, max};
 ghost use lib.ListN.{length, getD};
+ghost use Rattle.calls.specs.Bounds.{largestM};
 ghost use Rattle.calls.specs.Numbers.{numberOf};
 ghost use Rattle.calls.specs.Memory.{overwrite, overwriteFrom};
 ghost use Rattle.calls.specs.Bits.{byteOf};
@@ -24,6 +25,7 @@ ghost use Rattle.polar.specs.CodeLaws.{MessageAccepted};
 ghost use Rattle.polar.specs.BlockLaws.{bitsOf, Bits};
 ghost use lib.Bits.{bitXor};
 use calls::Answer;
+use calls::LARGEST_M;
 use calls::Refusal;
 
 // The settings of a code. Coder and read-out take them by value, so that a later setting joins them here.
@@ -34,7 +36,7 @@ pub struct Code {
 // N from m, and a distance from the digit that it stands for. Offered to the crates above, which have tested m. The shift is of 32 bits and
 // widened afterwards: of `p < 1 << m` at one width LLVM makes `p >> m == 0`, no longer sees how often a loop runs, and does not vectorise it.
 pub fn power_of_two(k: u32) -> usize
-    requires { ⌜ k ≤ 10 ⌝ }
+    requires { ⌜ k ≤ largestM ⌝ }
     ensures { λ r. ⌜ r ≡ 2 ^ k ⌝ }
 {
     (1u32 << k) as usize
@@ -84,7 +86,7 @@ pub fn code_refusal(code: Code, mask: &[u8], room: usize) -> Answer
     if m < 1 {
         return Answer::Refused(Refusal::BlockLength);
     }
-    if 10 < m {
+    if LARGEST_M < m {
         return Answer::Refused(Refusal::BlockLength);
     }
     let n = power_of_two(m);
@@ -162,7 +164,7 @@ fn join(block: &mut [u8], p: usize, d: usize)
 
 // One step, over the distance d = 2^t. The positions go in runs of d, and the mask test chooses the upper ones.
 fn butterflies(block: &mut [u8], m: u32, t: u32)
-    requires { ⌜ (m ≤ 10) × (t < m) ⌝ }
+    requires { ⌜ (m ≤ largestM) × (t < m) ⌝ }
     requires { ⌜ Bits (2 ^ m) (now block) ⌝ }
     ensures { λ _. ⌜ now (block .exit) ≡ overwrite (2 ^ m) (λ i. byteOf (step t (bitsOf (now (block .entry))) i)) (now (block .entry)) ⌝ }
 {
@@ -180,7 +182,7 @@ fn butterflies(block: &mut [u8], m: u32, t: u32)
 // The coded bits of the first 2^m elements, in place: m steps, from the distance 2^(m-1) down to 1.
 // It is offered to the crates above, which lend it bits.
 pub fn transform(block: &mut [u8], m: u32)
-    requires { ⌜ m ≤ 10 ⌝ }
+    requires { ⌜ m ≤ largestM ⌝ }
     requires { ⌜ Bits (2 ^ m) (now block) ⌝ }
     ensures { λ _. ⌜ now (block .exit) ≡ overwrite (2 ^ m) (λ i. byteOf (coded m (bitsOf (now (block .entry))) i)) (now (block .entry)) ⌝ }
 {

@@ -12,6 +12,7 @@ use lib.IntN.{ℤ, pos, natAbs}
 use lib.ListN.{length, set}
 use lib.Pow.{pow-pos, pow-lt, pow-mono}
 use borrow.Author.Tests.{eq-eqb, ne-eqb}
+use Rattle.calls.specs.Bounds.{largestM}
 use Rattle.calls.specs.Memory.{overwriteFrom}
 use Rattle.calls.specs.MemoryLaws.{
   length-overwriteFrom,
@@ -140,7 +141,7 @@ module _ {rule : MinSum} {m t k x y p : ℕ} {w : List ℤ} (ready : Ready rule 
 
   pub readable : Readable (rule .ceiling) p (2 ^ t) (x * 2 ^ m) (y * 2 ^ m) w
   readable = record {
-    small = omega (arith, distance, pow-mono {i = m} {j = 10} (ready .size));
+    small = omega (arith, distance, pow-mono {i = m} {j = largestM} (ready .size));
     before = (ahead x (rows .first .0) (rows .first .1), ahead y (rows .second .0) (rows .second .1));
     after = (
       omega (arith, in-work x (rows .first .0) (rows .first .1), ready .room),

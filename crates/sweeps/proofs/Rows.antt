@@ -11,6 +11,7 @@ use lib.ListN.{length, set}
 use mir.Facts.{toZ-pos}
 use mir.Syntax.{w16}
 use mir.Val.{toZ}
+use Rattle.calls.specs.Bounds.{largestCeiling}
 use Rattle.calls.specs.Memory.{overwriteFrom}
 use Rattle.calls.specs.MemoryLaws.{length-overwriteFrom, overwriteFrom-none, overwriteFrom-store}
 use Rattle.polar.specs.Code.{byKind}
@@ -41,6 +42,6 @@ pub place : (m k i n room : ℕ) → n ≡ 2 ^ m → k < 2 * (m + 1) → i < 2 ^
 place m k i n room e hk hi h = rw e (omega (arith, row-lt m k i hk hi))
 
 -- the prior of a mask byte, as the code takes it
-pub prior-is : (C b : ℕ) → C ≤ 2047 → cond (eqb b 0) (pos 0) (toZ w16 C) ≡ byKind b (pos 0) (pos C)
+pub prior-is : (C b : ℕ) → C ≤ largestCeiling → cond (eqb b 0) (pos 0) (toZ w16 C) ≡ byKind b (pos 0) (pos C)
 prior-is C zero h = refl
 prior-is C (suc b) h = rw (eqb·suc-zero b) (toZ-pos w16 {n = C} (omega arith))

@@ -9,6 +9,7 @@ use native.Mathlib.Omega.{arith}
 use lib.Dec.{eqb}
 use lib.IntN.{ℤ, pos, natAbs}
 use lib.ListN.{length, getD}
+use Rattle.calls.specs.Bounds.{largestM, largestScale}
 use Rattle.calls.specs.Memory.{overwrite, overwriteFrom}
 use Rattle.calls.specs.MemoryLaws.{length-overwrite, length-overwriteFrom, overwrite-every, overwriteFrom-every, overwrite-at}
 use Rattle.polar.specs.Code.{byKind}
@@ -26,13 +27,13 @@ use Rattle.sweeps.specs.Iteration.{leftAt, rightAt, leftStep, rightStep,
 pub record Ready (rule : MinSum) (m : ℕ) (w : List ℤ) : Type 0 where
   pub tested : Tested rule
   pub some : 1 ≤ m
-  pub size : m ≤ 10
+  pub size : m ≤ largestM
   pub room : Room m w
   pub within : (j : ℕ) → j < workspaceLength m → natAbs (getD w j (pos 0)) ≤ rule .ceiling
 
 -- ---- a new message lies within the ceiling, whatever it is made of
 
-pub joined-size : (rule : MinSum) (t : ℕ) (x y : ℕ → ℤ) (p : ℕ) → rule .scale ≤ 16 → natAbs (joinedAt rule t x y p) ≤ rule .ceiling
+pub joined-size : (rule : MinSum) (t : ℕ) (x y : ℕ → ℤ) (p : ℕ) → rule .scale ≤ largestScale → natAbs (joinedAt rule t x y p) ≤ rule .ceiling
 joined-size rule t x y p h =
     let d = 2 ^ t in
     digit-cases t p
@@ -119,7 +120,7 @@ prior-size C mask i = go (getD mask i 0)
     go zero = zero-le
     go (suc b) = le-refl C
 
-pub ready-start : {rule : MinSum} {m : ℕ} (mask : List ℕ) (llr old : List ℤ) → Tested rule → 1 ≤ m → m ≤ 10 → Room m old
+pub ready-start : {rule : MinSum} {m : ℕ} (mask : List ℕ) (llr old : List ℤ) → Tested rule → 1 ≤ m → m ≤ largestM → Room m old
     → ((i : ℕ) → i < 2 ^ m → natAbs (getD llr i (pos 0)) ≤ rule .ceiling) → Ready rule m (start m (rule .ceiling) mask llr old)
 unfolding start setRow
 ready-start {rule} {m} mask llr old tested some size room small =

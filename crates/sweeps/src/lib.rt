@@ -8,6 +8,7 @@ ghost use lib.Bits.{bitAnd};
 ghost use lib.Dec.{eqb};
 ghost use lib.IntN.{pos, natAbs};
 ghost use lib.ListN.{length, getD};
+ghost use Rattle.calls.specs.Bounds.{largestM, largestCeiling};
 ghost use Rattle.calls.specs.Memory.{overwrite};
 ghost use Rattle.message.specs.Message.{add, f};
 ghost use Rattle.message.specs.MessageLaws.{Tested};
@@ -228,7 +229,7 @@ fn clear(work: &mut [i16], n: usize)
 
 // Column 0 of R: the ceiling where frozen, 0 elsewhere.
 fn set_prior(m: u32, ceiling: u16, mask: &[u8], work: &mut [i16])
-    requires { ⌜ (m ≤ 10) × (ceiling ≤ 2047) × (2 ^ m ≤ length (now mask)) × (workspaceLength m ≤ length (now work)) ⌝ }
+    requires { ⌜ (m ≤ largestM) × (ceiling ≤ largestCeiling) × (2 ^ m ≤ length (now mask)) × (workspaceLength m ≤ length (now work)) ⌝ }
     ensures { λ _. ⌜ now (work .exit) ≡ setR m 0 (prior ceiling (now (mask .entry))) (now (work .entry)) ⌝ }
 {
     let n = polar::power_of_two(m);
@@ -243,7 +244,7 @@ fn set_prior(m: u32, ceiling: u16, mask: &[u8], work: &mut [i16])
 
 // Column m of L: the LLRs.
 fn set_llr(m: u32, llr: &[i16], work: &mut [i16])
-    requires { ⌜ (m ≤ 10) × (2 ^ m ≤ length (now llr)) × (workspaceLength m ≤ length (now work)) ⌝ }
+    requires { ⌜ (m ≤ largestM) × (2 ^ m ≤ length (now llr)) × (workspaceLength m ≤ length (now work)) ⌝ }
     ensures { λ _. ⌜ now (work .exit) ≡ setL m m (λ i. getD (now (llr .entry)) i (pos 0)) (now (work .entry)) ⌝ }
 {
     let n = polar::power_of_two(m);
@@ -257,7 +258,7 @@ fn set_llr(m: u32, llr: &[i16], work: &mut [i16])
 
 // The start.
 pub fn begin(rule: MinSum, m: u32, mask: &[u8], llr: &[i16], work: &mut [i16])
-    requires { ⌜ (m ≤ 10) × (rule .ceiling ≤ 2047) × (2 ^ m ≤ length (now mask)) × (2 ^ m ≤ length (now llr)) × (workspaceLength m ≤ length (now work)) ⌝ }
+    requires { ⌜ (m ≤ largestM) × (rule .ceiling ≤ largestCeiling) × (2 ^ m ≤ length (now mask)) × (2 ^ m ≤ length (now llr)) × (workspaceLength m ≤ length (now work)) ⌝ }
     ensures { λ _. ⌜ now (work .exit) ≡ start m (rule .ceiling) (now (mask .entry)) (now (llr .entry)) (now (work .entry)) ⌝ }
 {
     let ceiling = rule.ceiling;

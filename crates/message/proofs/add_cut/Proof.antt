@@ -6,7 +6,8 @@ use mir.Syntax.{w16}
 use mir.Val.{SFits, toZ, ofZ}
 use mir.Facts.{toZ-ofZ, toZ-pos}
 use Rattle.message.specs.Message.{add}
-use Rattle.message.proofs.Machine.{told, sum-fits, minus-fits, minus-held, cut-twice}
+use Rattle.calls.proofs.Signed.{told, minus-fits, minus-held}
+use Rattle.message.proofs.Machine.{sum-fits, cut-twice}
 use Rattle.message.proofs.add_cut.Statement.{statement}
 use Rattle.message.proofs.add_cut.Tie as tie
 

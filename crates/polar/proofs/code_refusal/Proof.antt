@@ -9,13 +9,14 @@ use borrow.Author.Tests.{le-leb, lt-leb, not-true, not-false}
 use denote.Ref.{now}
 use lib.Dec.{leb}
 use lib.ListN.{length}
+use Rattle.calls.specs.Bounds.{largestM}
 use Rattle.calls.specs.Numbers.{between}
 use Rattle.polar.specs.Code.{areBits, informationCount}
 use Rattle.polar.proofs.code_refusal.Statement.{statement}
 use Rattle.polar.proofs.code_refusal.Tie as tie
 
-size : (c : tie.Else2) → between 1 10 (c .before .before .before .args .code .m) ≡ true
-size c = simp (le-leb 1 _ (c .before .if1 .left), le-leb _ 10 (c .if2 .left))
+size : (c : tie.Else2) → between 1 largestM (c .before .before .before .args .code .m) ≡ true
+size c = simp (le-leb 1 _ (c .before .if1 .left), le-leb _ largestM (c .if2 .left))
 
 abbrev start : tie.After-power-of-two → tie.Start
 start c = c .before .before .before .before
@@ -47,7 +48,7 @@ returns : tie.Need-returns
 returns c = simp (lt-leb 1 _ (c .if1 .taken))
 
 returns-2 : tie.Need-returns-2
-returns-2 c = simp (le-leb 1 _ (c .before .if1 .left), lt-leb _ 10 (c .if2 .taken))
+returns-2 c = simp (le-leb 1 _ (c .before .if1 .left), lt-leb _ largestM (c .if2 .taken))
 
 power-of-two-requires : tie.Need-power-of-two-requires
 power-of-two-requires c κs = omega arith

@@ -7,7 +7,7 @@ use denote.Ref.{now}
 use lib.Dec.{lit<}
 use lib.ListN.{length}
 use lib.Pow.{shl-exact}
-use Rattle.message.proofs.Machine.{told}
+use Rattle.calls.proofs.Signed.{told}
 use Rattle.sweeps.specs.WorkspaceLaws.{row-lt}
 use Rattle.sweeps.proofs.Filled.{Filled, filled-none, filled-length, filled-ready, filled-next, filled-all, readable}
 use Rattle.sweeps.proofs.by_positions.Statement.{statement}

@@ -11,7 +11,7 @@ use mir.Syntax.{w16}
 use mir.Val.{toZ, ofZ}
 use Rattle.message.specs.Message.{add, f}
 use Rattle.message.specs.MessageLaws.{add-size, f-size}
-use Rattle.message.proofs.Machine.{told}
+use Rattle.calls.proofs.Signed.{told}
 use Rattle.sweeps.proofs.Combined.{picked-size, combined}
 use Rattle.sweeps.proofs.combine.Statement.{statement}
 use Rattle.sweeps.proofs.combine.Tie as tie

@@ -4,7 +4,7 @@ use mathlib.Core.Path.{_≡_}
 use native.Mathlib.Omega.{arith}
 use denote.Ref.{now}
 use lib.ListN.{length, length-set}
-use Rattle.message.proofs.Machine.{told}
+use Rattle.calls.proofs.Signed.{told}
 use Rattle.sweeps.specs.Working.{Readable}
 use Rattle.sweeps.proofs.Pairs.{Paired, paired-none, paired-length, newFrom, runs-room, runs-readable, runs-next, runs-all}
 use Rattle.sweeps.proofs.Rows.{place}

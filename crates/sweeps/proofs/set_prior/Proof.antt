@@ -10,7 +10,7 @@ use lib.ListN.{length, getD, set}
 use lib.Pow.{pow-pos}
 use mir.Syntax.{w16}
 use mir.Val.{toZ, ofZ}
-use Rattle.message.proofs.Machine.{told}
+use Rattle.calls.proofs.Signed.{told}
 use Rattle.sweeps.specs.Iteration.{prior}
 use Rattle.sweeps.proofs.Rows.{RowPart, row-none, row-length, row-next, row-all, place, prior-is}
 use Rattle.sweeps.proofs.set_prior.Statement.{statement}

@@ -6,7 +6,7 @@ use mir.Syntax.{w16}
 use mir.Val.{toZ, ofZ}
 use Rattle.message.specs.Message.{add}
 use Rattle.message.specs.MessageLaws.{add-size}
-use Rattle.message.proofs.Machine.{told}
+use Rattle.calls.proofs.Signed.{told}
 use Rattle.sweeps.specs.Working.{messageAt}
 use Rattle.sweeps.proofs.upper_message.Statement.{statement}
 use Rattle.sweeps.proofs.upper_message.Tie as tie
