@@ -11,23 +11,18 @@ use Rattle.calls.specs.Numbers.{check, andThen, between}
 use Rattle.calls.specs.Every.{every}
 use Rattle.calls.specs.Memory.{overwrite, unlessRefused}
 use Rattle.polar.specs.declared.Code.{Code}
+use Rattle.polar.specs.Mask.{byKind, maskAccepted}
 
--- ---- the mask: one byte for each position, 1 frozen, 0 information
-
--- by the mask's byte: the first at an information position, the second at a frozen one
-module _ {A : Type 0} where
-  abbrev pub byKind : ℕ → A → A → A
-  byKind zero information frozen = information
-  byKind (suc n) information frozen = frozen
+-- ---- the message in the block
 
 -- how many of the first n positions are information positions; K is the count over all N positions
 abbrev pub informationCount : List ℕ → ℕ → ℕ
 informationCount mask zero = 0
-informationCount mask (suc n) = informationCount mask n + byKind (getD mask n 0) 1 0
+informationCount mask (suc n) = informationCount mask n + byKind (getD mask n 0) 1 (λ bit. 0)
 
--- u: the message bits fill the information positions in rising order, frozen positions carry 0
+-- u: the message bits fill the information positions in rising order, a frozen position carries its frozen bit
 abbrev pub uBit : List ℕ → List ℕ → ℕ → Bool
-uBit mask message i = byKind (getD mask i 0) (bitOf (getD message (informationCount mask i) 0)) false
+uBit mask message i = byKind (getD mask i 0) (bitOf (getD message (informationCount mask i) 0)) (λ bit. bit)
 
 -- ---- the coded bits
 
@@ -48,11 +43,11 @@ coded m u i = parity (2 ^ m) (λ j. includes i j && u j)
 
 abbrev pub informationBytes : List ℕ → List ℕ → ℕ → List ℕ
 informationBytes mask bytes zero = []
-informationBytes mask bytes (suc n) = informationBytes mask bytes n ++ byKind (getD mask n 0) (getD bytes n 0 ∷ []) []
+informationBytes mask bytes (suc n) = informationBytes mask bytes n ++ byKind (getD mask n 0) (getD bytes n 0 ∷ []) (λ bit. [])
 
 -- ---- the coder: 1; 7, mask or block; 8; 9; 7, message; 13. The read-out: 1; 7, mask or bytes; 8; 9; 7, message
 
--- the first n bytes are 0 or 1
+-- the first n bytes of a message are bits
 abbrev pub areBits : ℕ → List ℕ → Bool
 areBits n l = every n (λ i. leb (getD l i 0) 1)
 
@@ -61,7 +56,7 @@ abbrev pub codeNumber : Code → List ℕ → ℕ → ℕ
 codeNumber code mask room =
     check (between 1 largestM (code .m)) 1
     (check (leb (2 ^ code .m) (length mask) && leb (2 ^ code .m) room) 7
-    (check (areBits (2 ^ code .m) mask) 8
+    (check (maskAccepted (2 ^ code .m) mask) 8
     (check (leb 1 (informationCount mask (2 ^ code .m))) 9 0)))
 
 -- what the coder tests of a message for K information positions

@@ -11,6 +11,7 @@ use Rattle.calls.specs.EveryLaws.{every-at}
 use Rattle.calls.specs.Numbers.{check}
 use Rattle.calls.specs.NumberLaws.{check-passed, both-passed, and-passed, between-passed}
 use Rattle.polar.specs.declared.Code.{Code}
+use Rattle.polar.specs.Mask.{maskAccepted}
 use Rattle.polar.specs.Code.{informationCount, areBits, codeNumber, messageNumber, encodeNumber, readOutNumber}
 
 pub bits-at : (n : ℕ) (l : List ℕ) → areBits n l ≡ true → (i : ℕ) → i < n → getD l i 0 ≤ 1
@@ -21,7 +22,7 @@ pub record CodeAccepted (code : Code) (mask : List ℕ) (room : ℕ) : Type 0 wh
   pub size : code .m ≤ largestM
   pub mask-long : 2 ^ code .m ≤ length mask
   pub room-long : 2 ^ code .m ≤ room
-  pub values : areBits (2 ^ code .m) mask ≡ true
+  pub values : maskAccepted (2 ^ code .m) mask ≡ true
   pub information : 1 ≤ informationCount mask (2 ^ code .m)
 
 pub code-accepted : (code : Code) (mask : List ℕ) (room : ℕ) → codeNumber code mask room ≡ 0 → CodeAccepted code mask room

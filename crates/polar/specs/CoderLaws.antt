@@ -16,8 +16,8 @@ use Rattle.calls.specs.Memory.{overwrite, unlessRefused}
 use Rattle.calls.specs.MemoryLaws.{length-overwrite, overwrite-same}
 use Rattle.polar.specs.declared.Code.{Code}
 use Rattle.calls.specs.Bits.{xor, byteOf, bitOf}
+use Rattle.polar.specs.Mask.{byKind}
 use Rattle.polar.specs.Code.{
-  byKind,
   informationCount,
   uBit,
   coded,
@@ -107,7 +107,8 @@ module _ (code : Code) (mask : List ℕ) (all : (i : ℕ) → i < 2 ^ code .m �
 
 -- ---- linear: the exclusive-or of two messages codes to that of their blocks
 
-by-kind-xor : (b : ℕ) (x y : Bool) → byKind b (xor x y) false ≡ xor (byKind b x false) (byKind b y false)
+by-kind-xor : (b : ℕ) (x y : Bool)
+    → byKind b (xor x y) (λ bit. bit) ≡ xor (byKind b x (λ bit. bit)) (byKind b y (λ bit. bit))
 by-kind-xor zero x y = refl
 by-kind-xor (suc b) x y = refl
 
@@ -116,15 +117,15 @@ pub encode-linear : (m : ℕ) (mask a b sum : List ℕ) → ((k : ℕ) → bitsO
 encode-linear m mask a b sum h i =
     coded-same m i (uBit mask sum) (λ j. xor (uBit mask a j) (uBit mask b j))
     (λ j l. let k = informationCount mask j in
-    ap (λ (x : Bool). byKind (getD mask j 0) x false) (h k) ∙ by-kind-xor (getD mask j 0) (bitsOf a k) (bitsOf b k))
+    ap (λ (x : Bool). byKind (getD mask j 0) x (λ bit. bit)) (h k) ∙ by-kind-xor (getD mask j 0) (bitsOf a k) (bitsOf b k))
     ∙ coded-xor m i (uBit mask a) (uBit mask b)
 
 -- ---- the read-out of u is the message
 
 module _ (mask message bytes : List ℕ) (n : ℕ) (one : getD bytes n 0 ≡ byteOf (uBit mask message n))
     (before : informationBytes mask bytes n ≡ take (informationCount mask n) message) where
-  one-more : (b : ℕ) → getD mask n 0 ≡ b → MessageAccepted message (informationCount mask n + byKind b 1 0)
-      → informationBytes mask bytes n ++ byKind b (getD bytes n 0 ∷ []) [] ≡ take (informationCount mask n + byKind b 1 0) message
+  one-more : (b : ℕ) → getD mask n 0 ≡ b → MessageAccepted message (informationCount mask n + byKind b 1 (λ bit. 0))
+      → informationBytes mask bytes n ++ byKind b (getD bytes n 0 ∷ []) (λ bit. []) ≡ take (informationCount mask n + byKind b 1 (λ bit. 0)) message
   one-more zero e h =
       let k = informationCount mask n in
       let next : getD bytes n 0 ≡ getD message k 0

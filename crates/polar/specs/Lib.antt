@@ -1,3 +1,5 @@
+pub mod Mask
+pub mod MaskLaws
 pub mod Code
 pub mod Columns
 pub mod ParityLaws

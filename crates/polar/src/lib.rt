@@ -1,12 +1,15 @@
 // The polar code: a message becomes a block of N = 2^m coded bits, and bytes at the information positions are read out again.
 // It sees `calls` alone. It promises document 01's closed form for every coded bit, and the number and the exact condition of each refusal.
 ghost use mathlib.Core.Path.{_≡_};
-ghost use Prim.Native.Nat.{_+_, _<_, _≤_, _^_, max};
+ghost use Prim.Native.Nat.{ℕ, _+_, _<_, _≤_, _^_, max};
+ghost use lib.Dec.{leb};
 ghost use lib.ListN.{length, getD};
+ghost use Rattle.calls.specs.Every.{every};
 ghost use Rattle.calls.specs.Bounds.{largestM};
 ghost use Rattle.calls.specs.Numbers.{numberOf};
 ghost use Rattle.calls.specs.Memory.{overwrite, overwriteFrom};
 ghost use Rattle.calls.specs.Bits.{byteOf};
+ghost use Rattle.polar.specs.Mask.{isMaskByte, isInformation, frozenBit, maskAccepted};
 ghost use Rattle.polar.specs.Code.{
   informationCount,
   uBit,
@@ -48,10 +51,10 @@ fn larger(a: u8, b: u8) -> u8
     if a < b { b } else { a }
 }
 
-// Whether the first n bytes are 0 or 1. It keeps their maximum, which needs no branch.
-fn are_bits(bytes: &[u8], n: usize) -> bool
+// The largest of the first n bytes, 0 of none: it is at most b where each of them is. It needs no branch.
+fn largest(bytes: &[u8], n: usize) -> u8
     requires { ⌜ n ≤ length (now bytes) ⌝ }
-    ensures { λ r. ⌜ r ≡ areBits n (now (bytes .entry)) ⌝ }
+    ensures { λ r. ⌜ ((b : ℕ) → leb r b ≡ every n (λ i. leb (getD (now (bytes .entry)) i 0) b)) ⌝ }
 {
     let mut most = 0;
     let mut i = 0;
@@ -59,7 +62,43 @@ fn are_bits(bytes: &[u8], n: usize) -> bool
         most = larger(most, bytes[i]);
         i += 1;
     }
-    most <= 1
+    most
+}
+
+// Whether the first n bytes are 0 or 1.
+fn are_bits(bytes: &[u8], n: usize) -> bool
+    requires { ⌜ n ≤ length (now bytes) ⌝ }
+    ensures { λ r. ⌜ r ≡ areBits n (now (bytes .entry)) ⌝ }
+{
+    largest(bytes, n) <= 1
+}
+
+// What a byte of the mask means is asked here alone: whether it may stand in a mask, whether it marks an information position, and which bit a
+// frozen position carries, 0 whatever its byte.
+fn is_mask_byte(kind: u8) -> bool
+    ensures { λ r. ⌜ r ≡ isMaskByte kind ⌝ }
+{
+    kind <= 1
+}
+
+pub fn is_information(kind: u8) -> bool
+    ensures { λ r. ⌜ r ≡ isInformation kind ⌝ }
+{
+    kind == 0
+}
+
+fn frozen_bit(kind: u8) -> u8
+    ensures { λ r. ⌜ r ≡ byteOf (frozenBit kind) ⌝ }
+{
+    0
+}
+
+// Whether the first n bytes are a mask's. A byte that is at most the largest one may stand in a mask where that one may.
+fn mask_accepted(mask: &[u8], n: usize) -> bool
+    requires { ⌜ n ≤ length (now mask) ⌝ }
+    ensures { λ r. ⌜ r ≡ maskAccepted n (now (mask .entry)) ⌝ }
+{
+    is_mask_byte(largest(mask, n))
 }
 
 // How many of the first n positions are information positions.
@@ -70,7 +109,7 @@ fn information_count(mask: &[u8], n: usize) -> usize
     let mut count = 0;
     let mut i = 0;
     while i < n {
-        if mask[i] == 0 {
+        if is_information(mask[i]) {
             count += 1;
         }
         i += 1;
@@ -96,7 +135,7 @@ pub fn code_refusal(code: Code, mask: &[u8], room: usize) -> Answer
     if room < n {
         return Answer::Refused(Refusal::ShortSlice);
     }
-    if !are_bits(mask, n) {
+    if !mask_accepted(mask, n) {
         return Answer::Refused(Refusal::MaskValue);
     }
     if information_count(mask, n) == 0 {
@@ -131,7 +170,7 @@ fn encode_refusal(code: Code, mask: &[u8], message: &[u8], room: usize) -> Answe
     }
 }
 
-// u: the message bits in the information positions of the first n elements, 0 in the frozen ones.
+// u: the message bits in the information positions of the first n elements, the frozen bits in the others.
 fn place(mask: &[u8], message: &[u8], n: usize, block: &mut [u8])
     requires { ⌜ (n ≤ length (now mask)) × (n ≤ length (now block)) ⌝ }
     requires { ⌜ MessageAccepted (now message) (informationCount (now mask) n) ⌝ }
@@ -140,11 +179,11 @@ fn place(mask: &[u8], message: &[u8], n: usize, block: &mut [u8])
     let mut used = 0;
     let mut i = 0;
     while i < n {
-        if mask[i] == 0 {
+        if is_information(mask[i]) {
             block[i] = message[used];
             used += 1;
         } else {
-            block[i] = 0;
+            block[i] = frozen_bit(mask[i]);
         }
         i += 1;
     }
@@ -234,7 +273,7 @@ fn gather(mask: &[u8], bytes: &[u8], n: usize, message: &mut [u8])
     let mut count = 0;
     let mut i = 0;
     while i < n {
-        if mask[i] == 0 {
+        if is_information(mask[i]) {
             message[count] = bytes[i];
             count += 1;
         }
