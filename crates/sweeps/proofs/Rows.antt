@@ -1,11 +1,10 @@
 -- One turn of a loop that writes a whole row.
 use Prim.Native.Nat.{ℕ, zero, suc, _+_, _*_, _^_, _≤_, _<_}
 use mathlib.Core.Path.{_≡_, refl, sym, ap, _∙_}
-use mathlib.Core.Bool.{cond}
+use mathlib.Core.Bool.{Bool, true, false, cond}
 use mathlib.Core.List.{List}
 use native.Mathlib.Numerals.{add-one}
 use native.Mathlib.Omega.{arith}
-use lib.Dec.{eqb, eqb·suc-zero}
 use lib.IntN.{ℤ, pos}
 use lib.ListN.{length, set}
 use mir.Facts.{toZ-pos}
@@ -14,7 +13,9 @@ use mir.Val.{toZ}
 use Rattle.calls.specs.Bounds.{largestCeiling}
 use Rattle.calls.specs.Memory.{overwriteFrom}
 use Rattle.calls.specs.MemoryLaws.{length-overwriteFrom, overwriteFrom-none, overwriteFrom-store}
-use Rattle.polar.specs.Code.{byKind}
+use Rattle.calls.specs.Signs.{flipped}
+use Rattle.polar.specs.Mask.{byKind, isInformation}
+use Rattle.polar.specs.MaskLaws.{kind-information, kind-frozen, frozen-bit-zero}
 use Rattle.sweeps.specs.Workspace.{setRow, workspaceLength}
 use Rattle.sweeps.specs.WorkspaceLaws.{row-lt}
 
@@ -42,6 +43,12 @@ pub place : (m k i n room : ℕ) → n ≡ 2 ^ m → k < 2 * (m + 1) → i < 2 ^
 place m k i n room e hk hi h = rw e (omega (arith, row-lt m k i hk hi))
 
 -- the prior of a mask byte, as the code takes it
-pub prior-is : (C b : ℕ) → C ≤ largestCeiling → cond (eqb b 0) (pos 0) (toZ w16 C) ≡ byKind b (pos 0) (pos C)
-prior-is C zero h = refl
-prior-is C (suc b) h = rw (eqb·suc-zero b) (toZ-pos w16 {n = C} (omega arith))
+pub prior-is : (C byte : ℕ) → C ≤ largestCeiling
+    → cond (isInformation byte) (pos 0) (toZ w16 C) ≡ byKind byte (pos 0) (λ bit. flipped bit (pos C))
+prior-is C byte h = go (isInformation byte) refl
+  where
+    go : (b : Bool) → isInformation byte ≡ b → cond b (pos 0) (toZ w16 C) ≡ byKind byte (pos 0) (λ bit. flipped bit (pos C))
+    go true e = sym (kind-information (pos 0) (λ bit. flipped bit (pos C)) byte e)
+    go false e =
+        toZ-pos w16 {n = C} (omega arith)
+        ∙ sym (kind-frozen (pos 0) (λ bit. flipped bit (pos C)) byte e ∙ rw (frozen-bit-zero byte))

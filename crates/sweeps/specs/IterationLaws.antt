@@ -12,7 +12,9 @@ use lib.ListN.{length, getD}
 use Rattle.calls.specs.Bounds.{largestM, largestScale}
 use Rattle.calls.specs.Memory.{overwrite, overwriteFrom}
 use Rattle.calls.specs.MemoryLaws.{length-overwrite, length-overwriteFrom, overwrite-every, overwriteFrom-every, overwrite-at}
-use Rattle.polar.specs.Code.{byKind}
+use Rattle.calls.specs.Signs.{flipped}
+use Rattle.calls.specs.SignLaws.{size-flipped}
+use Rattle.polar.specs.Mask.{Kind, information, frozen, kindOf, onKind}
 use Rattle.polar.specs.Columns.{digit, bySide}
 use Rattle.polar.specs.DigitLaws.{digit-cases}
 use Rattle.message.specs.declared.MinSum.{MinSum}
@@ -114,11 +116,11 @@ length-start m C mask llr old = simp (length-setRow, length-overwrite)
 -- ---- the start is ready
 
 prior-size : (C : ℕ) (mask : List ℕ) (i : ℕ) → natAbs (prior C mask i) ≤ C
-prior-size C mask i = go (getD mask i 0)
+prior-size C mask i = go (kindOf (getD mask i 0))
   where
-    go : (b : ℕ) → natAbs (byKind b (pos 0) (pos C)) ≤ C
-    go zero = zero-le
-    go (suc b) = le-refl C
+    go : (k : Kind) → natAbs (onKind k (pos 0) (λ bit. flipped bit (pos C))) ≤ C
+    go information = zero-le
+    go (frozen bit) = rw (size-flipped bit (pos C)) (le-refl C)
 
 pub ready-start : {rule : MinSum} {m : ℕ} (mask : List ℕ) (llr old : List ℤ) → Tested rule → 1 ≤ m → m ≤ largestM → Room m old
     → ((i : ℕ) → i < 2 ^ m → natAbs (getD llr i (pos 0)) ≤ rule .ceiling) → Ready rule m (start m (rule .ceiling) mask llr old)

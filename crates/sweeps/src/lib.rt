@@ -227,7 +227,7 @@ fn clear(work: &mut [i16], n: usize)
     }
 }
 
-// Column 0 of R: the ceiling where frozen, 0 elsewhere.
+// Column 0 of R: the ceiling where frozen, since every frozen bit is 0, and 0 elsewhere.
 fn set_prior(m: u32, ceiling: u16, mask: &[u8], work: &mut [i16])
     requires { ⌜ (m ≤ largestM) × (ceiling ≤ largestCeiling) × (2 ^ m ≤ length (now mask)) × (workspaceLength m ≤ length (now work)) ⌝ }
     ensures { λ _. ⌜ now (work .exit) ≡ setR m 0 (prior ceiling (now (mask .entry))) (now (work .entry)) ⌝ }
@@ -237,7 +237,7 @@ fn set_prior(m: u32, ceiling: u16, mask: &[u8], work: &mut [i16])
     let top = ceiling as i16;
     let mut i = 0;
     while i < n {
-        work[at + i] = pick(mask[i] == 0, 0, top);
+        work[at + i] = pick(polar::is_information(mask[i]), 0, top);
         i += 1;
     }
 }
