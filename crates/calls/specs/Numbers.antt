@@ -51,9 +51,9 @@ check true number next = next
 check false number next = number
 
 -- two groups of tests: the number of the first, or, where it passes, that of the second
-abbrev pub andThen : ℕ → ℕ → ℕ
-andThen zero next = next
-andThen (suc number) next = suc number
+abbrev pub firstRefusal : ℕ → ℕ → ℕ
+firstRefusal zero next = next
+firstRefusal (suc number) next = suc number
 
 -- from low to high, both included
 abbrev pub between : ℕ → ℕ → ℕ → Bool

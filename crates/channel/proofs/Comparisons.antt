@@ -10,7 +10,7 @@ use lib.Ieee.{Float, nan, inf, fin, up, down, lt}
 use lib.Ieee.Fits.{up-pos}
 use borrow.Author.Tests.{lt-ltb, le-ltb}
 use Rattle.channel.specs.Front.{isFinite, isAboveZero}
-use Rattle.channel.specs.Working.{bySign}
+use Rattle.channel.specs.Private.{bySign}
 
 pub finite-is : (x : Float) → isFinite x ≡ cond (lt (inf true) x) (lt x (inf false)) false
 unfolding lt isFinite

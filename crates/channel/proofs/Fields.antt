@@ -16,7 +16,7 @@ use borrow.Author.Tests.{le-leb, lt-leb, eqb-true}
 use Rattle.calls.specs.Bounds.{largestCeiling}
 use Rattle.calls.specs.Signs.{flipped}
 use Rattle.channel.specs.Front.{nearest, roundedSize, quantised}
-use Rattle.channel.specs.Working.{fieldUnits}
+use Rattle.channel.specs.Private.{fieldUnits}
 use Rattle.channel.specs.FrontLaws.{reaches, rounded-same}
 
 -- ---- below a half: d stands for the unit's 2 ^ 149 and h for its half, which are too long for `omega` as numerals

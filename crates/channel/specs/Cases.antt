@@ -6,7 +6,7 @@ use mathlib.Core.Bool.{true, false}
 use mathlib.Core.List.{List, [], _∷_, map}
 use lib.IntN.{ℤ, pos, negsuc}
 use lib.Ieee.{Float, nan, inf, binary32, ofBits, mul, neg}
-use Rattle.channel.specs.Front.{withSign, quantised, llrOf, isFinite, isAboveZero, frontNumber}
+use Rattle.channel.specs.Front.{withSampleSign, quantised, llrOf, isFinite, isAboveZero, frontNumber}
 use Rattle.channel.specs.declared.Channel.{Channel}
 use Rattle.channel.specs.declared.Channel.the-variants.{Gaussian, Flipping, Erasing}
 
@@ -54,7 +54,7 @@ hundred = Flipping (float 0x42c8_0000)
 
 -- ---- P10: factor 1.5, samples 1 and -1; weight 0.25
 p10 : llrs 31 stronger ones ∷ llrs 31 quarter ones ∷ [] ≡ (pos 2 ∷ negsuc 1 ∷ []) ∷ (pos 0 ∷ pos 0 ∷ []) ∷ []
-unfolding ofBits mul neg withSign quantised
+unfolding ofBits mul neg withSampleSign quantised
 p10 = refl
 
 -- ---- halves go away from zero: 0.5, -0.5, 1.5, 2.5, -2.5; the float just below 0.5 goes to 0
@@ -84,7 +84,7 @@ ends = refl
 -- ---- either zero gives 0, of each kind
 zero-samples : llrs 31 stronger zeros ∷ llrs 31 between-two zeros ∷ llrs 31 Erasing zeros ∷ []
     ≡ (pos 0 ∷ pos 0 ∷ []) ∷ (pos 0 ∷ pos 0 ∷ []) ∷ (pos 0 ∷ pos 0 ∷ []) ∷ []
-unfolding ofBits mul withSign quantised
+unfolding ofBits mul withSampleSign quantised
 zero-samples = refl
 
 -- ---- of the flipping and the erasing kind the sign alone counts: weight 2.5, a weight above the ceiling, and erasing
@@ -100,7 +100,7 @@ signs : llrs 31 between-two ones
     ∷ (pos 31 ∷ negsuc 30 ∷ [])
     ∷ (pos 2047 ∷ negsuc 2046 ∷ [])
     ∷ []
-unfolding ofBits neg withSign quantised
+unfolding ofBits neg withSampleSign quantised
 signs = refl
 
 -- ---- refusals: m = 1 unless said otherwise, so two samples and room for two LLRs are needed

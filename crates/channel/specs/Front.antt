@@ -18,17 +18,17 @@ use Rattle.channel.specs.declared.Channel.the-variants.{Gaussian, Flippi
 -- ---- the value of a sample, by the kind of channel
 
 -- a size with the sample's sign; a sample of either zero gives 0
-unfoldable pub withSign : Float → Float → Float
-withSign nan size = nan
-withSign (inf s) size = cond s (neg size) size
-withSign (fin s zero e) size = fin false 0 (pos 0)
-withSign (fin s (suc m) e) size = cond s (neg size) size
+unfoldable pub withSampleSign : Float → Float → Float
+withSampleSign nan size = nan
+withSampleSign (inf s) size = cond s (neg size) size
+withSampleSign (fin s zero e) size = fin false 0 (pos 0)
+withSampleSign (fin s (suc m) e) size = cond s (neg size) size
 
 -- Gaussian: one 32-bit product, rounded once. Flipping: the weight with the sample's sign. Erasing: the ceiling, C * 2 ^ 0, with it
 abbrev pub valueOf : ℕ → Channel → Float → Float
 valueOf C (Gaussian factor) x = mul binary32 x factor
-valueOf C (Flipping weight) x = withSign x weight
-valueOf C Erasing x = withSign x (fin false C (pos 0))
+valueOf C (Flipping weight) x = withSampleSign x weight
+valueOf C Erasing x = withSampleSign x (fin false C (pos 0))
 
 -- ---- the whole number of a value
 

@@ -1,5 +1,5 @@
 -- Laws of the front's definitions, each for every float and every channel: `nearest` is the nearest whole number; an LLR is no larger than
--- the ceiling and odd in its sample; samples negated at some places give the same number and the LLRs negated at those places.
+-- the ceiling and odd in its sample; samples flipped at some places give the same number and the LLRs flipped at those places.
 use Prim.Native.Nat.{ℕ, zero, suc, _+_, _*_, _/_, _^_, _≤_, _<_, zero-le}
 use mathlib.Core.Path.{_≡_, refl, sym, ap, ap₂, _∙_}
 use mathlib.Core.Bool.{Bool, true, false, not, _&&_, cond}
@@ -21,7 +21,7 @@ use Rattle.calls.specs.SignLaws.{size-flipped, flipped-xor}
 use Rattle.calls.specs.EveryLaws.{every-same}
 use Rattle.calls.specs.MemoryLaws.{length-overwrite, overwrite-same}
 use Rattle.channel.specs.Front.{
-  withSign,
+  withSampleSign,
   valueOf,
   nearest,
   roundedSize,
@@ -32,7 +32,7 @@ use Rattle.channel.specs.Front.{
   frontNumber,
   frontLlrs,
 }
-use Rattle.channel.specs.Negated.{negatedIf, negated}
+use Rattle.channel.specs.FlippedSamples.{flippedSample, flippedSamples}
 use Rattle.channel.specs.declared.Channel.{Channel}
 use Rattle.channel.specs.declared.Channel.the-variants.{Gaussian, Flipping, Erasing}
 
@@ -153,8 +153,8 @@ zero-odd : (C : ℕ) → quantised C (fin false 0 (pos 0)) ≡ negℤ (quantised
 unfolding quantised
 zero-odd C = rw (rounded-zero C)
 
-sign-odd : (C : ℕ) (x size : Float) → quantised C (withSign (neg x) size) ≡ negℤ (quantised C (withSign x size))
-unfolding withSign neg quantised
+sign-odd : (C : ℕ) (x size : Float) → quantised C (withSampleSign (neg x) size) ≡ negℤ (quantised C (withSampleSign x size))
+unfolding withSampleSign neg quantised
 sign-odd C nan size = refl
 sign-odd C (inf s) size = either-odd C s size
 sign-odd C (fin s zero e) size = zero-odd C
@@ -165,55 +165,55 @@ llr-odd C (Gaussian factor) x = ap (quantised C) (mul-neg binary32 x factor) ∙
 llr-odd C (Flipping weight) x = sign-odd C x weight
 llr-odd C Erasing x = sign-odd C x (fin false C (pos 0))
 
--- ---- samples negated at some places
+-- ---- samples flipped at some places
 
-llr-flipped : (C : ℕ) (channel : Channel) (b : Bool) (x : Float) → llrOf C channel (negatedIf b x) ≡ flipped b (llrOf C channel x)
+llr-flipped : (C : ℕ) (channel : Channel) (b : Bool) (x : Float) → llrOf C channel (flippedSample b x) ≡ flipped b (llrOf C channel x)
 llr-flipped C channel true x = llr-odd C channel x
 llr-flipped C channel false x = refl
 
-finite-negated : (b : Bool) (x : Float) → isFinite (negatedIf b x) ≡ isFinite x
+finite-flipped : (b : Bool) (x : Float) → isFinite (flippedSample b x) ≡ isFinite x
 unfolding isFinite neg
-finite-negated false x = refl
-finite-negated true nan = refl
-finite-negated true (inf s) = refl
-finite-negated true (fin s m e) = refl
+finite-flipped false x = refl
+finite-flipped true nan = refl
+finite-flipped true (inf s) = refl
+finite-flipped true (fin s m e) = refl
 
-nan-negated : (b : Bool) → nan ≡ negatedIf b nan
+nan-flipped : (b : Bool) → nan ≡ flippedSample b nan
 unfolding neg
-nan-negated true = refl
-nan-negated false = refl
+nan-flipped true = refl
+nan-flipped false = refl
 
 -- (behind the list's end both sides read a NaN)
-sample-negated : (n : ℕ) (bit : ℕ → Bool) (samples : List Float) (i : ℕ) → i < n
-    → getD (negated n bit samples) i nan ≡ negatedIf (bit i) (getD samples i nan)
-sample-negated zero bit samples i h = absurd (not-suc-le-zero h)
-sample-negated (suc n) bit [] i h = nan-negated (bit i)
-sample-negated (suc n) bit (x ∷ samples) zero h = refl
-sample-negated (suc n) bit (x ∷ samples) (suc i) h = sample-negated n (λ j. bit (suc j)) samples i (le-of-suc-le-suc h)
+sample-flipped : (n : ℕ) (bit : ℕ → Bool) (samples : List Float) (i : ℕ) → i < n
+    → getD (flippedSamples n bit samples) i nan ≡ flippedSample (bit i) (getD samples i nan)
+sample-flipped zero bit samples i h = absurd (not-suc-le-zero h)
+sample-flipped (suc n) bit [] i h = nan-flipped (bit i)
+sample-flipped (suc n) bit (x ∷ samples) zero h = refl
+sample-flipped (suc n) bit (x ∷ samples) (suc i) h = sample-flipped n (λ j. bit (suc j)) samples i (le-of-suc-le-suc h)
 
-all-negated : (n k : ℕ) (bit : ℕ → Bool) (samples : List Float) → k ≤ n
-    → allFinite k (negated n bit samples) ≡ allFinite k samples
-all-negated n k bit samples h =
-    every-same k _ _ (λ i l. ap isFinite (sample-negated n bit samples i (omega arith)) ∙ finite-negated (bit i) (getD samples i nan))
+all-flipped : (n k : ℕ) (bit : ℕ → Bool) (samples : List Float) → k ≤ n
+    → allFinite k (flippedSamples n bit samples) ≡ allFinite k samples
+all-flipped n k bit samples h =
+    every-same k _ _ (λ i l. ap isFinite (sample-flipped n bit samples i (omega arith)) ∙ finite-flipped (bit i) (getD samples i nan))
 
 -- the number of the answer stays
-pub front-number-negated : (m C : ℕ) (channel : Channel) (bit : ℕ → Bool) (samples : List Float) (room : ℕ)
-    → frontNumber m C channel (negated (2 ^ m) bit samples) room ≡ frontNumber m C channel samples room
-front-number-negated m C channel bit samples room =
-    simp (length-overwrite, all-negated (2 ^ m) (2 ^ m) bit samples (le-refl (2 ^ m)))
+pub front-number-flipped : (m C : ℕ) (channel : Channel) (bit : ℕ → Bool) (samples : List Float) (room : ℕ)
+    → frontNumber m C channel (flippedSamples (2 ^ m) bit samples) room ≡ frontNumber m C channel samples room
+front-number-flipped m C channel bit samples room =
+    simp (length-overwrite, all-flipped (2 ^ m) (2 ^ m) bit samples (le-refl (2 ^ m)))
 
--- each LLR is flipped where its sample is negated
-pub llr-negated : (n C : ℕ) (channel : Channel) (bit : ℕ → Bool) (samples : List Float) (i : ℕ) → i < n
-    → llrOf C channel (getD (negated n bit samples) i nan) ≡ flipped (bit i) (llrOf C channel (getD samples i nan))
-llr-negated n C channel bit samples i h =
-    ap (llrOf C channel) (sample-negated n bit samples i h) ∙ llr-flipped C channel (bit i) (getD samples i nan)
+-- each LLR is flipped where its sample is
+pub llr-at-flipped : (n C : ℕ) (channel : Channel) (bit : ℕ → Bool) (samples : List Float) (i : ℕ) → i < n
+    → llrOf C channel (getD (flippedSamples n bit samples) i nan) ≡ flipped (bit i) (llrOf C channel (getD samples i nan))
+llr-at-flipped n C channel bit samples i h =
+    ap (llrOf C channel) (sample-flipped n bit samples i h) ∙ llr-flipped C channel (bit i) (getD samples i nan)
 
-pub front-llrs-negated : (m C : ℕ) (channel : Channel) (bit : ℕ → Bool) (samples : List Float) (old : List ℤ)
-    → frontLlrs m C channel (negated (2 ^ m) bit samples) old
+pub front-llrs-flipped : (m C : ℕ) (channel : Channel) (bit : ℕ → Bool) (samples : List Float) (old : List ℤ)
+    → frontLlrs m C channel (flippedSamples (2 ^ m) bit samples) old
     ≡ unlessRefused (frontNumber m C channel samples (length old))
     (overwrite (2 ^ m) (λ i. flipped (bit i) (llrOf C channel (getD samples i nan))) old) old
-front-llrs-negated m C channel bit samples old =
+front-llrs-flipped m C channel bit samples old =
     ap₂ (λ (number : ℕ) (new : List ℤ). unlessRefused number new old)
-    (front-number-negated m C channel bit samples (length old))
-    (overwrite-same (2 ^ m) (λ i. llrOf C channel (getD (negated (2 ^ m) bit samples) i nan))
-    (λ i. flipped (bit i) (llrOf C channel (getD samples i nan))) old (λ i h k. llr-negated (2 ^ m) C channel bit samples i h))
+    (front-number-flipped m C channel bit samples (length old))
+    (overwrite-same (2 ^ m) (λ i. llrOf C channel (getD (flippedSamples (2 ^ m) bit samples) i nan))
+    (λ i. flipped (bit i) (llrOf C channel (getD samples i nan))) old (λ i h k. llr-at-flipped (2 ^ m) C channel bit samples i h))

@@ -12,7 +12,7 @@ ghost use Rattle.calls.specs.Bounds.{largestCeiling};
 ghost use Rattle.calls.specs.Numbers.{numberOf};
 ghost use Rattle.calls.specs.Memory.{overwrite};
 ghost use Rattle.channel.specs.Front.{quantised, roundedSize, isFinite, isAboveZero, isUsable, allFinite, llrOf, frontNumber, frontLlrs};
-ghost use Rattle.channel.specs.Working.{fieldUnits, bySign};
+ghost use Rattle.channel.specs.Private.{fieldUnits, bySign};
 use calls::Answer;
 use calls::LARGEST_CEILING;
 use calls::LARGEST_M;

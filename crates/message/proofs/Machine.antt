@@ -15,7 +15,7 @@ use Rattle.calls.specs.Bounds.{largestCeiling, largestScale}
 use Rattle.calls.specs.Signs.{flipped}
 use Rattle.calls.specs.Bits.{xor}
 use Rattle.message.specs.Message.{cut}
-use Rattle.message.specs.Working.{lesser, greater}
+use Rattle.message.specs.Private.{lesser, greater}
 
 -- ---- sums
 

@@ -1,5 +1,5 @@
 -- Laws of the message arithmetic, for every rule and every two numbers: sizes, orders, and how a turned sign comes out; and f by the
--- cases of document 01. `Tested` is what the decoder has tested of a rule.
+-- cases of document 01. `RuleInRange` is what the decoder has tested of a rule.
 use Prim.Native.Nat.{ℕ, zero, suc, _*_, _/_, _≤_, min}
 use mathlib.Core.Path.{_≡_, refl, sym, ap, ap₂, _∙_}
 use mathlib.Core.Bool.{Bool, true, false, cond, _||_}
@@ -15,7 +15,7 @@ use Rattle.message.specs.Message.{cut, add, f}
 use Rattle.message.specs.declared.MinSum.{MinSum}
 
 -- ceiling and scale within their ranges
-pub record Tested (rule : MinSum) : Type 0 where
+pub record RuleInRange (rule : MinSum) : Type 0 where
   pub some : 1 ≤ rule .ceiling
   pub ceiling-le : rule .ceiling ≤ largestCeiling
   pub scale-some : 1 ≤ rule .scale

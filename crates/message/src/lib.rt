@@ -7,8 +7,8 @@ ghost use lib.IntN.{pos, natAbs};
 ghost use Rattle.calls.specs.Bounds.{largestCeiling, largestScale};
 ghost use Rattle.calls.specs.Signs.{isNegative, flipped};
 ghost use Rattle.message.specs.Message.{add, f};
-ghost use Rattle.message.specs.MessageLaws.{Tested};
-ghost use Rattle.message.specs.Working.{lesser, greater};
+ghost use Rattle.message.specs.MessageLaws.{RuleInRange};
+ghost use Rattle.message.specs.Private.{lesser, greater};
 
 // The settings of the message arithmetic: the ceiling C and the scale k. A later setting of f joins them here.
 pub struct MinSum {
@@ -30,7 +30,7 @@ fn higher_of(value: i16, limit: i16) -> i16
 
 // The sum of two messages, cut to the range from -C to C: from above, then from below.
 pub fn add_cut(rule: MinSum, a: i16, b: i16) -> i16
-    requires { ⌜ Tested rule ⌝ }
+    requires { ⌜ RuleInRange rule ⌝ }
     requires { ⌜ (natAbs a ≤ rule .ceiling) × (natAbs b ≤ rule .ceiling) ⌝ }
     ensures { λ r. ⌜ r ≡ add rule a b ⌝ }
 {
@@ -62,7 +62,7 @@ fn with_sign(negative: bool, size: u16) -> i16
 
 // f of two messages. The size is scaled, and the sign given back afterwards.
 pub fn min_sum(rule: MinSum, a: i16, b: i16) -> i16
-    requires { ⌜ Tested rule ⌝ }
+    requires { ⌜ RuleInRange rule ⌝ }
     requires { ⌜ (natAbs a ≤ rule .ceiling) × (natAbs b ≤ rule .ceiling) ⌝ }
     ensures { λ r. ⌜ r ≡ f rule a b ⌝ }
 {

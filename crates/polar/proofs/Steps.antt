@@ -22,7 +22,7 @@ use Rattle.calls.specs.MemoryLaws.{
 }
 use Rattle.calls.specs.Bits.{xor, byteOf, bitOf}
 use Rattle.polar.specs.Code.{coded}
-use Rattle.polar.specs.Columns.{digit, bySide, step, column}
+use Rattle.polar.specs.Columns.{digit, bySide, columnStep, column}
 use Rattle.calls.specs.BitLaws.{byte-of-bit, xor-bytes}
 use Rattle.polar.specs.BlockLaws.{bitsOf, Bits, bits-own, bits-written, read-back}
 use Rattle.polar.specs.DigitLaws.{
@@ -32,7 +32,7 @@ use Rattle.polar.specs.DigitLaws.{
   run-digit,
   run-fits,
   upper-fits,
-  step-same,
+  column-step-same,
 }
 use Rattle.polar.specs.TransformLaws.{column-coded, coded-same}
 
@@ -61,7 +61,7 @@ module _ {p d i : ℕ} {old block : List ℕ} (h : Joined p d i old block) where
 -- ---- a step over the distance 2 ^ t: the first p positions, whole runs, are done
 
 abbrev stepped : ℕ → List ℕ → ℕ → ℕ
-stepped t old i = byteOf (step t (bitsOf old) i)
+stepped t old i = byteOf (columnStep t (bitsOf old) i)
 
 pub record Stepped (t p : ℕ) (old block : List ℕ) : Type 0 where
   pub runs : Multiple (2 ^ t) p
@@ -134,7 +134,7 @@ module _ {m s : ℕ} {old block : List ℕ} (h : Columned m s old block) where
       record {
         is = rw (add-one s, e, t)
             (overwrite-same (2 ^ m) (stepped (m - suc s) block) (λ i. byteOf (column m (bitsOf old) (suc s) i)) block
-            (λ i q r. ap byteOf (step-same m (m - suc s) i (bitsOf block) (column m (bitsOf old) s) (omega arith) q
+            (λ i q r. ap byteOf (column-step-same m (m - suc s) i (bitsOf block) (column m (bitsOf old) s) (omega arith) q
             (read-back (2 ^ m) (column m (bitsOf old) s) old block (bits .long) (h .is))))
             ∙ rw (h .is) (overwrite-twice (2 ^ m) (λ i. byteOf (column m (bitsOf old) (suc s) i)) (λ i. byteOf (column m (bitsOf old) s i)) old));
       }

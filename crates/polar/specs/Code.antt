@@ -7,7 +7,7 @@ use lib.Dec.{eqb, leb}
 use lib.ListN.{length, getD}
 use Rattle.calls.specs.Bounds.{largestM}
 use Rattle.calls.specs.Bits.{xor, byteOf, bitOf}
-use Rattle.calls.specs.Numbers.{check, andThen, between}
+use Rattle.calls.specs.Numbers.{check, firstRefusal, between}
 use Rattle.calls.specs.Every.{every}
 use Rattle.calls.specs.Memory.{overwrite, unlessRefused}
 use Rattle.polar.specs.declared.Code.{Code}
@@ -65,7 +65,7 @@ messageNumber message K = check (leb K (length message)) 7 (check (areBits K mes
 
 abbrev pub encodeNumber : Code → List ℕ → List ℕ → ℕ → ℕ
 encodeNumber code mask message room =
-    andThen (codeNumber code mask room) (messageNumber message (informationCount mask (2 ^ code .m)))
+    firstRefusal (codeNumber code mask room) (messageNumber message (informationCount mask (2 ^ code .m)))
 
 abbrev pub encodeBlock : Code → List ℕ → List ℕ → List ℕ → List ℕ
 encodeBlock code mask message old =
@@ -75,7 +75,7 @@ encodeBlock code mask message old =
 
 abbrev pub readOutNumber : Code → List ℕ → List ℕ → ℕ → ℕ
 readOutNumber code mask bytes room =
-    andThen (codeNumber code mask (length bytes)) (check (leb (informationCount mask (2 ^ code .m)) room) 7 0)
+    firstRefusal (codeNumber code mask (length bytes)) (check (leb (informationCount mask (2 ^ code .m)) room) 7 0)
 
 abbrev pub readOutMessage : Code → List ℕ → List ℕ → List ℕ → List ℕ
 readOutMessage code mask bytes old =

@@ -9,7 +9,7 @@ use borrow.Author.Tests.{leb-true}
 use Rattle.calls.specs.Bounds.{largestM}
 use Rattle.calls.specs.EveryLaws.{every-at}
 use Rattle.calls.specs.Numbers.{check}
-use Rattle.calls.specs.NumberLaws.{check-passed, both-passed, and-passed, between-passed}
+use Rattle.calls.specs.NumberLaws.{check-passed, first-refusal-passed, and-passed, between-passed}
 use Rattle.polar.specs.declared.Code.{Code}
 use Rattle.polar.specs.Mask.{maskAccepted}
 use Rattle.polar.specs.Code.{informationCount, areBits, codeNumber, messageNumber, encodeNumber, readOutNumber}
@@ -49,7 +49,7 @@ pub record MessageAccepted (message : List ℕ) (K : ℕ) : Type 0 where
 pub encode-accepted : (code : Code) (mask message : List ℕ) (room : ℕ) → encodeNumber code mask message room ≡ 0
     → CodeAccepted code mask room × MessageAccepted message (informationCount mask (2 ^ code .m))
 encode-accepted code mask message room h =
-    let both = both-passed (codeNumber code mask room) _ h in
+    let both = first-refusal-passed (codeNumber code mask room) _ h in
     let seven = check-passed _ 6 _ (both .1) in
     let thirteen = check-passed _ 12 _ (seven .1) in
     (code-accepted code mask room (both .0), record { long = leb-true _ _ (seven .0); bits = thirteen .0 })
@@ -57,5 +57,5 @@ encode-accepted code mask message room h =
 pub read-out-accepted : (code : Code) (mask bytes : List ℕ) (room : ℕ) → readOutNumber code mask bytes room ≡ 0
     → CodeAccepted code mask (length bytes) × (informationCount mask (2 ^ code .m) ≤ room)
 read-out-accepted code mask bytes room h =
-    let both = both-passed (codeNumber code mask (length bytes)) _ h in
+    let both = first-refusal-passed (codeNumber code mask (length bytes)) _ h in
     (code-accepted code mask (length bytes) (both .0), leb-true _ _ (check-passed _ 6 _ (both .1) .0))

@@ -15,10 +15,10 @@ module _ {A : Type 0} where
   bySide (suc n) upper lower = lower
 
 -- one step over the distance d = 2 ^ t: an upper position i takes the exclusive-or with i + d, a lower one keeps its bit
-abbrev pub step : ℕ → (ℕ → Bool) → ℕ → Bool
-step t v i = bySide (digit t i) (xor (v i) (v (i + 2 ^ t))) (v i)
+abbrev pub columnStep : ℕ → (ℕ → Bool) → ℕ → Bool
+columnStep t v i = bySide (digit t i) (xor (v i) (v (i + 2 ^ t))) (v i)
 
 -- step s joins columns s and s + 1 over the distance 2 ^ (m - 1 - s)
 abbrev pub column : ℕ → (ℕ → Bool) → ℕ → ℕ → Bool
 column m u zero = u
-column m u (suc s) = step (m - suc s) (column m u s)
+column m u (suc s) = columnStep (m - suc s) (column m u s)

@@ -7,7 +7,7 @@ use native.Mathlib.Omega.{arith}
 use lib.Bits.{bitAnd, and-high}
 use lib.Pow.{pow-pos, pow-add, high, split, shl-shr}
 use Rattle.calls.specs.Bits.{xor}
-use Rattle.polar.specs.Columns.{digit, bySide, step}
+use Rattle.polar.specs.Columns.{digit, bySide, columnStep}
 
 pub digit-cases : (t i : ℕ) {A : Type 0} → (digit t i ≡ 0 → A) → (digit t i ≡ 1 → A) → A
 digit-cases t i {A} clear set = go (digit t i) refl
@@ -87,8 +87,8 @@ partner-lt m t i ht hi z =
     omega (arith, upper-fits t p h m ht (omega arith) upper)
 
 -- a step of a block reads that block alone
-pub step-same : (m t i : ℕ) (v w : ℕ → Bool) → t < m → i < 2 ^ m → ((j : ℕ) → j < 2 ^ m → v j ≡ w j) → step t v i ≡ step t w i
-step-same m t i v w ht hi same =
+pub column-step-same : (m t i : ℕ) (v w : ℕ → Bool) → t < m → i < 2 ^ m → ((j : ℕ) → j < 2 ^ m → v j ≡ w j) → columnStep t v i ≡ columnStep t w i
+column-step-same m t i v w ht hi same =
     digit-cases t i
     (λ z. rw z (ap₂ xor (same i hi) (same (i + 2 ^ t) (partner-lt m t i ht hi z))))
     (λ o. rw o (same i hi))

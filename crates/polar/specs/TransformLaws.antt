@@ -13,7 +13,7 @@ use lib.Pow.{shr-shr}
 use borrow.Author.Tests.{eq-eqb, ne-eqb, eqb-true, eqb-false}
 use Rattle.calls.specs.Bits.{xor}
 use Rattle.polar.specs.Code.{parity, includes, coded}
-use Rattle.polar.specs.Columns.{digit, bySide, step, column}
+use Rattle.polar.specs.Columns.{digit, bySide, columnStep, column}
 use Rattle.calls.specs.BitLaws.{xor-cancel, and-xor}
 use Rattle.polar.specs.ParityLaws.{parity-same, parity-none, parity-xor, parity-halves}
 
@@ -101,8 +101,8 @@ coded-twice (suc m) i u h =
 -- ---- the columns end in the closed form
 
 -- a step over the distance 2 ^ (t + 1) is one over 2 ^ t in each half; the step over 1 joins the halves
-step-half : (t r : ℕ) (v : ℕ → Bool) → r < 2 → half r (step (suc t) v) ≡ step t (half r v)
-step-half t r v h = fun-ext (λ q.
+column-step-half : (t r : ℕ) (v : ℕ → Bool) → r < 2 → half r (columnStep (suc t) v) ≡ columnStep t (half r v)
+column-step-half t r v h = fun-ext (λ q.
     let e : (q * 2 + r) / 2 ≡ q = omega arith in
     let d : digit (suc t) (q * 2 + r) ≡ digit t q = rw (← one-add t, ← shr-shr (q * 2 + r) 1 t, e) in
     let p : q * 2 + r + 2 ^ suc t ≡ (q + 2 ^ t) * 2 + r = omega (arith, pow-suc 2 t) in
@@ -112,16 +112,16 @@ column-half : (m s r : ℕ) (u : ℕ → Bool) → s ≤ m → r < 2 → half r 
 column-half m zero r u h k = refl
 column-half m (suc s) r u h k =
     let e : suc m - suc s ≡ suc (m - suc s) = omega arith in
-    rw e (step-half (m - suc s) r (column (suc m) u s) k ∙ ap (step (m - suc s)) (column-half m s r u (omega arith) k))
+    rw e (column-step-half (m - suc s) r (column (suc m) u s) k ∙ ap (columnStep (m - suc s)) (column-half m s r u (omega arith) k))
 
-step-even : (v : ℕ → Bool) (q : ℕ) → step 0 v (q * 2 + 0) ≡ xor (half 0 v q) (half 1 v q)
-step-even v q =
+column-step-even : (v : ℕ → Bool) (q : ℕ) → columnStep 0 v (q * 2 + 0) ≡ xor (half 0 v q) (half 1 v q)
+column-step-even v q =
     let d : digit 0 (q * 2 + 0) ≡ 0 = omega arith in
     let p : q * 2 + 0 + 1 ≡ q * 2 + 1 = omega arith in
     rw (d, p)
 
-step-odd : (v : ℕ → Bool) (q : ℕ) → step 0 v (q * 2 + 1) ≡ half 1 v q
-step-odd v q = let d : digit 0 (q * 2 + 1) ≡ 1 = omega arith in rw d
+column-step-odd : (v : ℕ → Bool) (q : ℕ) → columnStep 0 v (q * 2 + 1) ≡ half 1 v q
+column-step-odd v q = let d : digit 0 (q * 2 + 1) ≡ 1 = omega arith in rw d
 
 pub column-coded : (m i : ℕ) (u : ℕ → Bool) → i < 2 ^ m → column m u m i ≡ coded m u i
 column-coded zero i u h = rw (lt-one h)
@@ -130,7 +130,7 @@ column-coded (suc m) i u h =
     let ends : (r q : ℕ) → r < 2 → q < 2 ^ m → half r (column (suc m) u m) q ≡ coded m (half r u) q
     = λ r q k l. ap (λ (v : ℕ → Bool). v q) (column-half m m r u (omega arith) k) ∙ column-coded m q (half r u) l in
     rw e
-    (by-halves (λ i. i < 2 ^ suc m → step 0 (column (suc m) u m) i ≡ coded (suc m) u i)
+    (by-halves (λ i. i < 2 ^ suc m → columnStep 0 (column (suc m) u m) i ≡ coded (suc m) u i)
     (λ q l. let lt = half-lt m q 0 l in
-    step-even (column (suc m) u m) q ∙ ap₂ xor (ends 0 q (omega arith) lt) (ends 1 q (omega arith) lt) ∙ sym (coded-even m u q))
-    (λ q l. step-odd (column (suc m) u m) q ∙ ends 1 q (omega arith) (half-lt m q 1 l) ∙ sym (coded-odd m u q)) i h)
+    column-step-even (column (suc m) u m) q ∙ ap₂ xor (ends 0 q (omega arith) lt) (ends 1 q (omega arith) lt) ∙ sym (coded-even m u q))
+    (λ q l. column-step-odd (column (suc m) u m) q ∙ ends 1 q (omega arith) (half-lt m q 1 l) ∙ sym (coded-odd m u q)) i h)

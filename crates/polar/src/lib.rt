@@ -23,7 +23,7 @@ ghost use Rattle.polar.specs.Code.{
   readOutNumber,
   readOutMessage,
 };
-ghost use Rattle.polar.specs.Columns.{step};
+ghost use Rattle.polar.specs.Columns.{columnStep};
 ghost use Rattle.polar.specs.CodeLaws.{MessageAccepted};
 ghost use Rattle.polar.specs.BlockLaws.{bitsOf, Bits};
 ghost use lib.Bits.{bitXor};
@@ -205,7 +205,7 @@ fn join(block: &mut [u8], p: usize, d: usize)
 fn butterflies(block: &mut [u8], m: u32, t: u32)
     requires { ⌜ (m ≤ largestM) × (t < m) ⌝ }
     requires { ⌜ Bits (2 ^ m) (now block) ⌝ }
-    ensures { λ _. ⌜ now (block .exit) ≡ overwrite (2 ^ m) (λ i. byteOf (step t (bitsOf (now (block .entry))) i)) (now (block .entry)) ⌝ }
+    ensures { λ _. ⌜ now (block .exit) ≡ overwrite (2 ^ m) (λ i. byteOf (columnStep t (bitsOf (now (block .entry))) i)) (now (block .entry)) ⌝ }
 {
     let n = power_of_two(m);
     let d = power_of_two(t);

@@ -21,8 +21,8 @@ use Rattle.polar.specs.DigitLaws.{Multiple, multiple-none, multiple-next, digit
 use Rattle.message.specs.declared.MinSum.{MinSum}
 use Rattle.sweeps.specs.Workspace.{row}
 use Rattle.sweeps.specs.WorkspaceLaws.{row-lt}
-use Rattle.sweeps.specs.IterationLaws.{Ready, ready-written, joined-size}
-use Rattle.sweeps.specs.Working.{upperAt, lowerAt, Readable, joinedAt, rowPart, rowStep, Rows, UpperRun}
+use Rattle.sweeps.specs.IterationLaws.{WorkspaceValid, valid-written, joined-size}
+use Rattle.sweeps.specs.Private.{upperAt, lowerAt, Readable, joinedAt, rowPart, rowStep, Rows, UpperRun}
 use Rattle.sweeps.proofs.Filled.{row-apart, joined-kept, Filled, filled-none, filled-part, filled-all, readable}
 
 -- ---- two runs of d elements, the first from a on, filled side by side: i elements of each are those of g
@@ -82,7 +82,7 @@ lower-joined : (rule : MinSum) (m t x y : ℕ) (w : List ℤ) (p q : ℕ) → q 
 lower-joined rule m t x y w p q e o = let back : q - 2 ^ t ≡ p = omega arith in rw (o, back, e)
 
 -- n and d are N and the distance, as the code has them
-module _ {rule : MinSum} {m t k x y p n d : ℕ} {old : List ℤ} (en : n ≡ 2 ^ m) (ed : d ≡ 2 ^ t) (ready : Ready rule m old) (rows : Rows m t k x y)
+module _ {rule : MinSum} {m t k x y p n d : ℕ} {old : List ℤ} (en : n ≡ 2 ^ m) (ed : d ≡ 2 ^ t) (valid : WorkspaceValid rule m old) (rows : Rows m t k x y)
     (run : UpperRun m t p) where
   abbrev g : ℕ → ℤ
   g = newFrom rule m t x y p old
@@ -92,18 +92,18 @@ module _ {rule : MinSum} {m t k x y p n d : ℕ} {old : List ℤ} (en : n ≡ 2 
   fit = upper-fits t p (run .whole) m (rows .distance) (run .inside) (run .upper)
 
   pub runs-room : k * n + p + d + d ≤ length old
-  runs-room = rw (en, ed) (omega (arith, pow-pos t, row-lt m k (p + 2 ^ t + 2 ^ t - 1) (rows .written) (omega (arith, fit, pow-pos t)), ready .room))
+  runs-room = rw (en, ed) (omega (arith, pow-pos t, row-lt m k (p + 2 ^ t + 2 ^ t - 1) (rows .written) (omega (arith, fit, pow-pos t)), valid .room))
 
   module _ {i : ℕ} {w : List ℤ} (l : i < 2 ^ t) (h : Paired (k * 2 ^ m + p) (2 ^ t) i (newFrom rule m t x y p old) old w) where
     small : (j : ℕ) → natAbs (g j) ≤ rule .ceiling
-    small j = joined-size rule t (row m old x) (row m old y) (p + j) (ready .tested .scale-le)
+    small j = joined-size rule t (row m old x) (row m old y) (p + j) (valid .in-range .scale-le)
 
     pub runs-readable : Readable (rule .ceiling) (p + i) d (x * n) (y * n) w
     runs-readable =
         let low : ℕ → ℤ = λ j. g (2 ^ t + j) in
         let a = k * 2 ^ m + p in
         rw (en, ed, h .is)
-        (readable (ready-written (ready-written ready a i g (λ j q. small j)) (a + 2 ^ t) i low (λ j q. small (2 ^ t + j))) rows (omega (arith, fit)))
+        (readable (valid-written (valid-written valid a i g (λ j q. small j)) (a + 2 ^ t) i low (λ j q. small (2 ^ t + j))) rows (omega (arith, fit)))
 
     kept : (j q : ℕ) → (k ≡ j → ⊥) → q < 2 ^ m → row m w j q ≡ row m old j q
     kept j q ne hq =

@@ -8,7 +8,7 @@ use lib.IntN.{ℤ}
 use Rattle.message.specs.declared.MinSum.{MinSum}
 use Rattle.sweeps.specs.Iteration.{leftStep, rightStep, leftSteps, rightSteps}
 use Rattle.sweeps.specs.IterationLaws.{left-joined, right-joined}
-use Rattle.sweeps.specs.Working.{rowStep, Rows}
+use Rattle.sweeps.specs.Private.{rowStep, Rows}
 
 module _ (m t : ℕ) (h : t < m) where
   pub left-rows : Rows m t (m - 1 - t) (m - 1 - t + 1) (m + 1 + (m - 1 - t))

@@ -12,8 +12,8 @@ use Rattle.calls.specs.MemoryLaws.{length-overwriteFrom, overwriteFrom-at, over
 use Rattle.sweeps.specs.Workspace.{row, setRow, workspaceLength}
 
 -- the workspace lies in the list
-abbrev pub Room : ℕ → List ℤ → Type 0
-Room m w = workspaceLength m ≤ length w
+abbrev pub WorkspaceFits : ℕ → List ℤ → Type 0
+WorkspaceFits m w = workspaceLength m ≤ length w
 
 -- an element of a row lies in the workspace
 pub row-lt : (m k i : ℕ) → k < 2 * (m + 1) → i < 2 ^ m → k * 2 ^ m + i < workspaceLength m
@@ -36,7 +36,7 @@ module _ (m k n : ℕ) (g : ℕ → ℤ) (w : List ℤ) (hn : n ≤ 2 ^ m) where
       overwriteFrom-behind (k * 2 ^ m) n g w (j * 2 ^ m + i) (pos 0) (omega (arith, suc-mul k (2 ^ m), mul-le-mul-right (2 ^ m) hj))
 
 module _ (m k : ℕ) (g : ℕ → ℤ) (w : List ℤ) where
-  pub row-own : (i : ℕ) → Room m w → k < 2 * (m + 1) → i < 2 ^ m → row m (setRow m k g w) k i ≡ g i
+  pub row-own : (i : ℕ) → WorkspaceFits m w → k < 2 * (m + 1) → i < 2 ^ m → row m (setRow m k g w) k i ≡ g i
   unfolding setRow
   row-own i room hk hi = part-own m k (2 ^ m) g w (omega arith) i hi (omega (arith, row-lt m k i hk hi))
 

@@ -11,11 +11,11 @@ ghost use lib.ListN.{length, getD};
 ghost use Rattle.calls.specs.Bounds.{largestM, largestCeiling};
 ghost use Rattle.calls.specs.Memory.{overwrite};
 ghost use Rattle.message.specs.Message.{add, f};
-ghost use Rattle.message.specs.MessageLaws.{Tested};
+ghost use Rattle.message.specs.MessageLaws.{RuleInRange};
 ghost use Rattle.sweeps.specs.Workspace.{setL, setR, workspaceLength};
 ghost use Rattle.sweeps.specs.Iteration.{leftSteps, rightSteps, iteration, prior, start};
-ghost use Rattle.sweeps.specs.Working.{messageAt, newAt, upperAt, lowerAt, Readable, Rows, rowPart, rowStep, UpperRun};
-ghost use Rattle.sweeps.specs.IterationLaws.{Ready};
+ghost use Rattle.sweeps.specs.Private.{messageAt, newAt, upperAt, lowerAt, Readable, Rows, rowPart, rowStep, UpperRun};
+ghost use Rattle.sweeps.specs.IterationLaws.{WorkspaceValid};
 use message::MinSum;
 
 // The message at position i of the row that starts at `at`.
@@ -50,7 +50,7 @@ fn combine(
     x_before: i16,
     y_before: i16,
 ) -> i16
-    requires { ⌜ Tested rule ⌝ }
+    requires { ⌜ RuleInRange rule ⌝ }
     requires { ⌜ (natAbs own ≤ rule .ceiling) × (natAbs «x_after» ≤ rule .ceiling) × (natAbs «y_after» ≤ rule .ceiling) × (natAbs «x_before» ≤ rule .ceiling) × (natAbs «y_before» ≤ rule .ceiling) ⌝ }
     ensures { λ r. ⌜ r ≡ cond upper (f rule own (add rule «x_after» «y_after»)) (add rule (f rule «x_before» «y_before») own) ⌝ }
 {
@@ -62,7 +62,7 @@ fn combine(
 // The new message at position p of a step over the distance d, from the rows that start at x and y. It reads both candidates of the
 // partner, also where one of them lies beside its row, and drops the one that is not meant.
 fn new_message(rule: MinSum, work: &[i16], p: usize, d: u16, x: usize, y: usize) -> i16
-    requires { ⌜ Tested rule ⌝ }
+    requires { ⌜ RuleInRange rule ⌝ }
     requires { ⌜ Readable (rule .ceiling) p d x y (now work) ⌝ }
     ensures { λ r. ⌜ r ≡ newAt rule d x y (now (work .entry)) p ⌝ }
 {
@@ -80,7 +80,7 @@ fn new_message(rule: MinSum, work: &[i16], p: usize, d: u16, x: usize, y: usize)
 
 // A step position by position, by one formula for both sides.
 fn by_positions(rule: MinSum, m: u32, t: u32, k: usize, x: usize, y: usize, work: &mut [i16])
-    requires { ⌜ Ready rule m (now work) ⌝ }
+    requires { ⌜ WorkspaceValid rule m (now work) ⌝ }
     requires { ⌜ Rows m t k x y ⌝ }
     ensures { λ _. ⌜ now (work .exit) ≡ rowStep rule m t k x y (now (work .entry)) ⌝ }
 {
@@ -96,7 +96,7 @@ fn by_positions(rule: MinSum, m: u32, t: u32, k: usize, x: usize, y: usize, work
 
 // The new message of an upper position p, from the rows that start at x and y.
 fn upper_message(rule: MinSum, work: &[i16], p: usize, d: usize, x: usize, y: usize) -> i16
-    requires { ⌜ Tested rule ⌝ }
+    requires { ⌜ RuleInRange rule ⌝ }
     requires { ⌜ Readable (rule .ceiling) p d x y (now work) ⌝ }
     ensures { λ r. ⌜ r ≡ upperAt rule d x y (now (work .entry)) p ⌝ }
 {
@@ -106,7 +106,7 @@ fn upper_message(rule: MinSum, work: &[i16], p: usize, d: usize, x: usize, y: us
 
 // The new message of its partner, the lower position p + d.
 fn lower_message(rule: MinSum, work: &[i16], p: usize, d: usize, x: usize, y: usize) -> i16
-    requires { ⌜ Tested rule ⌝ }
+    requires { ⌜ RuleInRange rule ⌝ }
     requires { ⌜ Readable (rule .ceiling) p d x y (now work) ⌝ }
     ensures { λ r. ⌜ r ≡ lowerAt rule d x y (now (work .entry)) p ⌝ }
 {
@@ -117,7 +117,7 @@ fn lower_message(rule: MinSum, work: &[i16], p: usize, d: usize, x: usize, y: us
 // The new messages of the 2^t upper positions from p on and of their partners, pair by pair. The loop has no test in it and reads no position
 // beside the two runs.
 fn join_runs(rule: MinSum, m: u32, t: u32, k: usize, x: usize, y: usize, p: usize, work: &mut [i16])
-    requires { ⌜ Ready rule m (now work) ⌝ }
+    requires { ⌜ WorkspaceValid rule m (now work) ⌝ }
     requires { ⌜ Rows m t k x y ⌝ }
     requires { ⌜ UpperRun m t p ⌝ }
     ensures { λ _. ⌜ now (work .exit) ≡ rowPart rule m t k x y p (2 ^ t + 2 ^ t) (now (work .entry)) ⌝ }
@@ -141,7 +141,7 @@ fn join_runs(rule: MinSum, m: u32, t: u32, k: usize, x: usize, y: usize, p: usiz
 
 // A step in runs of 2^t positions: the mask test chooses the upper runs, and each is joined with the lower one behind it.
 fn by_pairs(rule: MinSum, m: u32, t: u32, k: usize, x: usize, y: usize, work: &mut [i16])
-    requires { ⌜ Ready rule m (now work) ⌝ }
+    requires { ⌜ WorkspaceValid rule m (now work) ⌝ }
     requires { ⌜ Rows m t k x y ⌝ }
     ensures { λ _. ⌜ now (work .exit) ≡ rowStep rule m t k x y (now (work .entry)) ⌝ }
 {
@@ -158,8 +158,8 @@ fn by_pairs(rule: MinSum, m: u32, t: u32, k: usize, x: usize, y: usize, work: &m
 
 // One step over the distance 2^t: row k from rows x and y. Runs of fewer than eight messages do not fill a vector register; they are slower
 // than the loop over positions.
-fn step(rule: MinSum, m: u32, t: u32, k: usize, x: usize, y: usize, work: &mut [i16])
-    requires { ⌜ Ready rule m (now work) ⌝ }
+fn row_step(rule: MinSum, m: u32, t: u32, k: usize, x: usize, y: usize, work: &mut [i16])
+    requires { ⌜ WorkspaceValid rule m (now work) ⌝ }
     requires { ⌜ Rows m t k x y ⌝ }
     ensures { λ _. ⌜ now (work .exit) ≡ rowStep rule m t k x y (now (work .entry)) ⌝ }
 {
@@ -172,28 +172,28 @@ fn step(rule: MinSum, m: u32, t: u32, k: usize, x: usize, y: usize, work: &mut [
 
 // L by steps m - 1 down to 0.
 fn left_sweep(rule: MinSum, m: u32, work: &mut [i16])
-    requires { ⌜ Ready rule m (now work) ⌝ }
+    requires { ⌜ WorkspaceValid rule m (now work) ⌝ }
     ensures { λ _. ⌜ now (work .exit) ≡ leftSteps rule m m (now (work .entry)) ⌝ }
 {
     let columns = m as usize;
     let mut t = 0;
     while t < m {
         let s = (m - 1 - t) as usize;
-        step(rule, m, t, s, s + 1, columns + 1 + s, work);
+        row_step(rule, m, t, s, s + 1, columns + 1 + s, work);
         t += 1;
     }
 }
 
 // R by steps 0 up to m - 1.
 fn right_sweep(rule: MinSum, m: u32, work: &mut [i16])
-    requires { ⌜ Ready rule m (now work) ⌝ }
+    requires { ⌜ WorkspaceValid rule m (now work) ⌝ }
     ensures { λ _. ⌜ now (work .exit) ≡ rightSteps rule m m (now (work .entry)) ⌝ }
 {
     let columns = m as usize;
     let mut t = 0;
     while t < m {
         let s = t as usize;
-        step(
+        row_step(
             rule,
             m,
             m - 1 - t,
@@ -208,7 +208,7 @@ fn right_sweep(rule: MinSum, m: u32, work: &mut [i16])
 
 // One iteration.
 pub fn iterate(rule: MinSum, m: u32, work: &mut [i16])
-    requires { ⌜ Ready rule m (now work) ⌝ }
+    requires { ⌜ WorkspaceValid rule m (now work) ⌝ }
     ensures { λ _. ⌜ now (work .exit) ≡ iteration rule m (now (work .entry)) ⌝ }
 {
     left_sweep(rule, m, work);

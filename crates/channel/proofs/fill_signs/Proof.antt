@@ -12,7 +12,7 @@ use mir.Facts.{toZ-ofZ}
 use borrow.Author.Needs.{needs}
 use Rattle.calls.specs.Memory.{overwrite}
 use Rattle.calls.specs.MemoryLaws.{length-overwrite, overwrite-store}
-use Rattle.channel.specs.Working.{bySign}
+use Rattle.channel.specs.Private.{bySign}
 use Rattle.channel.proofs.fill_signs.Statement.{statement}
 use Rattle.channel.proofs.fill_signs.Tie as tie
 

@@ -15,7 +15,7 @@ use Rattle.calls.proofs.Signed.{minus-fits, minus-held}
 use Rattle.calls.specs.Bounds.{largestCeiling}
 use Rattle.calls.specs.Signs.{flipped}
 use Rattle.channel.specs.Front.{quantised}
-use Rattle.channel.specs.Working.{fieldUnits}
+use Rattle.channel.specs.Private.{fieldUnits}
 use Rattle.channel.specs.FrontLaws.{rounded-bound}
 use Rattle.channel.proofs.Fields.{quantised-bits}
 use Rattle.channel.proofs.quantise.Statement.{statement}

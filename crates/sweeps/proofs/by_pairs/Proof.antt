@@ -5,7 +5,7 @@ use mathlib.Core.Logic.{⊎-elim}
 use native.Mathlib.Omega.{arith}
 use lib.Pow.{pow-pos}
 use Rattle.polar.specs.DigitLaws.{mask-clear, mask-set}
-use Rattle.sweeps.proofs.Filled.{filled-length, filled-ready}
+use Rattle.sweeps.proofs.Filled.{filled-length, filled-valid}
 use Rattle.sweeps.proofs.Pairs.{FilledRuns, runs-none, run-end, runs-upper, runs-lower, runs-done}
 use Rattle.sweeps.proofs.by_pairs.Statement.{statement}
 use Rattle.sweeps.proofs.by_pairs.Tie as tie
@@ -39,7 +39,7 @@ join-runs-requires : tie.Need-join-runs-requires Inv-loop μ-loop
 join-runs-requires c κs =
     let i = c .before .before in
     let h = at i .loop .inv in (
-      filled-ready (h .3 .filled) (start i .pre .0),
+      filled-valid (h .3 .filled) (start i .pre .0),
       (
         start i .pre .1,
         record {

@@ -9,7 +9,7 @@ use lib.ListN.{length}
 use lib.Pow.{shl-exact}
 use Rattle.calls.proofs.Signed.{told}
 use Rattle.sweeps.specs.WorkspaceLaws.{row-lt}
-use Rattle.sweeps.proofs.Filled.{Filled, filled-none, filled-length, filled-ready, filled-next, filled-all, readable}
+use Rattle.sweeps.proofs.Filled.{Filled, filled-none, filled-length, filled-valid, filled-next, filled-all, readable}
 use Rattle.sweeps.proofs.by_positions.Statement.{statement}
 use Rattle.sweeps.proofs.by_positions.Tie as tie
 
@@ -58,7 +58,7 @@ new-message-requires c κs =
     let in-loop = c .before in
     let s = start in-loop in
     let h = at in-loop .loop .inv in
-    (s .pre .0 .tested, rw (h .0, h .1) (readable (filled-ready (h .3) (s .pre .0)) (s .pre .1) (inside in-loop)))
+    (s .pre .0 .in-range, rw (h .0, h .1) (readable (filled-valid (h .3) (s .pre .0)) (s .pre .1) (inside in-loop)))
 
 mul-v : tie.Need-mul-v Inv-loop μ-loop
 mul-v c = let i = c .before .before in omega (arith, place i (start i .args .k) (start i .pre .1 .written))

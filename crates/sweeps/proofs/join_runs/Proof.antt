@@ -5,7 +5,7 @@ use native.Mathlib.Omega.{arith}
 use denote.Ref.{now}
 use lib.ListN.{length, length-set}
 use Rattle.calls.proofs.Signed.{told}
-use Rattle.sweeps.specs.Working.{Readable}
+use Rattle.sweeps.specs.Private.{Readable}
 use Rattle.sweeps.proofs.Pairs.{Paired, paired-none, paired-length, newFrom, runs-room, runs-readable, runs-next, runs-all}
 use Rattle.sweeps.proofs.Rows.{place}
 use Rattle.sweeps.proofs.join_runs.Statement.{statement}
@@ -76,10 +76,10 @@ add-q : tie.Need-add-q Inv-loop μ-loop
 add-q c = omega (arith, room (c .before .before))
 
 upper-message-requires : tie.Need-upper-message-requires Inv-loop μ-loop
-upper-message-requires c κs = (s (c .before) .pre .0 .tested, reads (c .before))
+upper-message-requires c κs = (s (c .before) .pre .0 .in-range, reads (c .before))
 
 lower-message-requires : tie.Need-lower-message-requires Inv-loop μ-loop
-lower-message-requires c κs = let i = c .before .before .before in (s i .pre .0 .tested, reads i)
+lower-message-requires c κs = let i = c .before .before .before in (s i .pre .0 .in-range, reads i)
 
 add-upper : tie.Need-add-upper Inv-loop μ-loop
 add-upper c = omega (arith, room (at (c .before .before .before .before) .before))

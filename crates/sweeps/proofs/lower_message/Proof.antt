@@ -8,7 +8,7 @@ use mir.Val.{toZ, ofZ}
 use Rattle.message.specs.Message.{f}
 use Rattle.message.specs.MessageLaws.{f-size}
 use Rattle.calls.proofs.Signed.{told}
-use Rattle.sweeps.specs.Working.{messageAt}
+use Rattle.sweeps.specs.Private.{messageAt}
 use Rattle.sweeps.proofs.lower_message.Statement.{statement}
 use Rattle.sweeps.proofs.lower_message.Tie as tie
 

@@ -3,7 +3,7 @@ use mathlib.Core.Path.{_≡_, _∙_}
 use native.Mathlib.Omega.{arith}
 use borrow.Author.Needs.{needs}
 use Rattle.calls.proofs.Signed.{told}
-use Rattle.sweeps.specs.Working.{newAt}
+use Rattle.sweeps.specs.Private.{newAt}
 use Rattle.sweeps.proofs.new_message.Statement.{statement}
 use Rattle.sweeps.proofs.new_message.Tie as tie
 

@@ -1,5 +1,6 @@
--- What the steps of the code compute, in the shape of the code: both sweeps take their steps by one formula over two rows, in flat places of
--- the workspace. A reader of the contracts of `begin` and `iterate` needs none of it.
+-- Definitions for the contracts of private functions: what the steps of the code compute, in the shape of the code. Both sweeps take their
+-- steps by one formula over two rows, in flat places of the workspace. A reader of the contracts of `begin` and `iterate` needs none of it.
+-- Definitions only.
 use Prim.Native.Nat.{ℕ, suc, _+_, _-_, _*_, _^_, _≤_, _<_}
 use mathlib.Core.Path.{_≡_}
 use mathlib.Core.Bool.{cond}
