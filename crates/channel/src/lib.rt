@@ -1,6 +1,6 @@
-// The channel front: 32-bit float samples of a Gaussian, a flipping or an erasing channel become whole LLRs of size at most the ceiling.
-// It sees `calls` alone. It promises document 01's LLR for each of the first 2^m samples, for every float there is, and the number and the
-// exact condition of each refusal.
+// The channel front: 32-bit float samples of a Gaussian, a flipping or an erasing channel become whole LLRs of size at
+// most the ceiling. It sees `calls` alone. It promises document 01's LLR for each of the first 2^m samples, for every
+// float there is, and the number and the exact condition of each refusal.
 ghost use mathlib.Core.Path.{_≡_};
 ghost use mathlib.Core.Bool.{not};
 ghost use Prim.Native.Nat.{_<_, _≤_, _^_};
@@ -11,7 +11,17 @@ ghost use lib.ListN.{length, getD};
 ghost use Rattle.calls.specs.Bounds.{largestCeiling};
 ghost use Rattle.calls.specs.Numbers.{numberOf};
 ghost use Rattle.calls.specs.Memory.{overwrite};
-ghost use Rattle.channel.specs.Front.{quantised, roundedSize, isFinite, isAboveZero, isUsable, allFinite, llrOf, frontNumber, frontLlrs};
+ghost use Rattle.channel.specs.Front.{
+  quantised,
+  roundedSize,
+  isFinite,
+  isAboveZero,
+  isUsable,
+  allFinite,
+  llrOf,
+  frontNumber,
+  frontLlrs,
+};
 ghost use Rattle.channel.specs.Private.{fieldUnits, bySign};
 use calls::Answer;
 use calls::LARGEST_CEILING;
@@ -68,8 +78,9 @@ fn all_finite(samples: &[f32], n: usize) -> bool
     true
 }
 
-// The size of a float, given by its exponent field and its digits, as a whole number of at most the ceiling: the ceiling where the size
-// reaches it, else the nearest, halves up. A field below 126 is a size below a half; one of 138 is 2,048 or more, an infinity included.
+// The size of a float, given by its exponent field and its digits, as a whole number of at most the ceiling: the
+// ceiling where the size reaches it, else the nearest, halves up. A field below 126 is a size below a half; one of 138
+// is 2,048 or more, an infinity included.
 fn rounded_size(field: u32, digits: u32, ceiling: u32) -> u32
     requires { ⌜ (digits < 2 ^ 23) × (1 ≤ ceiling) × (ceiling ≤ largestCeiling) ⌝ }
     ensures { λ r. ⌜ r ≡ roundedSize ceiling (fieldUnits field digits) (2 ^ 149) ⌝ }
@@ -119,7 +130,9 @@ fn fill_products(factor: f32, ceiling: u32, n: usize, samples: &[f32], llr: &mut
     requires { ⌜ (1 ≤ ceiling) × (ceiling ≤ largestCeiling) ⌝ }
     requires { ⌜ (n ≤ length (now samples)) × (n ≤ length (now llr)) ⌝ }
     requires { ⌜ T (allFinite n (now samples)) ⌝ }
-    ensures { λ _. ⌜ now (llr .exit) ≡ overwrite n (λ i. quantised ceiling (mul binary32 (getD (now (samples .entry)) i nan) factor)) (now (llr .entry)) ⌝ }
+    ensures { λ _. ⌜ now (llr .exit)
+        ≡ overwrite n (λ i. quantised ceiling (mul binary32 (getD (now (samples .entry)) i nan) factor))
+        (now (llr .entry)) ⌝ }
 {
     let mut i = 0;
     while i < n {
@@ -132,7 +145,8 @@ fn fill_products(factor: f32, ceiling: u32, n: usize, samples: &[f32], llr: &mut
 fn fill_signs(size: i16, n: usize, samples: &[f32], llr: &mut [i16])
     requires { ⌜ natAbs size ≤ largestCeiling ⌝ }
     requires { ⌜ (n ≤ length (now samples)) × (n ≤ length (now llr)) ⌝ }
-    ensures { λ _. ⌜ now (llr .exit) ≡ overwrite n (λ i. bySign (getD (now (samples .entry)) i nan) size) (now (llr .entry)) ⌝ }
+    ensures { λ _. ⌜ now (llr .exit)
+        ≡ overwrite n (λ i. bySign (getD (now (samples .entry)) i nan) size) (now (llr .entry)) ⌝ }
 {
     let mut i = 0;
     while i < n {
@@ -146,7 +160,8 @@ fn fill(channel: Channel, ceiling: u32, n: usize, samples: &[f32], llr: &mut [i1
     requires { ⌜ (1 ≤ ceiling) × (ceiling ≤ largestCeiling) ⌝ }
     requires { ⌜ (n ≤ length (now samples)) × (n ≤ length (now llr)) ⌝ }
     requires { ⌜ T (allFinite n (now samples)) ⌝ }
-    ensures { λ _. ⌜ now (llr .exit) ≡ overwrite n (λ i. llrOf ceiling channel (getD (now (samples .entry)) i nan)) (now (llr .entry)) ⌝ }
+    ensures { λ _. ⌜ now (llr .exit)
+        ≡ overwrite n (λ i. llrOf ceiling channel (getD (now (samples .entry)) i nan)) (now (llr .entry)) ⌝ }
 {
     match channel {
         Channel::Gaussian(factor) => fill_products(factor, ceiling, n, samples, llr),

@@ -1,5 +1,6 @@
-// The polar code: a message becomes a block of N = 2^m coded bits, and bytes at the information positions are read out again.
-// It sees `calls` alone. It promises document 01's closed form for every coded bit, and the number and the exact condition of each refusal.
+// The polar code: a message becomes a block of N = 2^m coded bits, and bytes at the information positions are read out
+// again. It sees `calls` alone. It promises document 01's closed form for every coded bit, and the number and the exact
+// condition of each refusal.
 ghost use mathlib.Core.Path.{_≡_};
 ghost use Prim.Native.Nat.{ℕ, _+_, _<_, _≤_, _^_, max};
 ghost use lib.Dec.{leb};
@@ -36,8 +37,9 @@ pub struct Code {
     pub m: u32,
 }
 
-// N from m, and a distance from the digit that it stands for. Offered to the crates above, which have tested m. The shift is of 32 bits and
-// widened afterwards: of `p < 1 << m` at one width LLVM makes `p >> m == 0`, no longer sees how often a loop runs, and does not vectorise it.
+// N from m, and a distance from the digit that it stands for. Offered to the crates above, which have tested m. The
+// shift is of 32 bits and widened afterwards: of `p < 1 << m` at one width LLVM makes `p >> m == 0`, no longer sees how
+// often a loop runs, and does not vectorise it.
 pub fn power_of_two(k: u32) -> usize
     requires { ⌜ k ≤ largestM ⌝ }
     ensures { λ r. ⌜ r ≡ 2 ^ k ⌝ }
@@ -73,8 +75,8 @@ fn are_bits(bytes: &[u8], n: usize) -> bool
     largest(bytes, n) <= 1
 }
 
-// What a byte of the mask means is asked here alone: whether it may stand in a mask, whether it marks an information position, and which bit a
-// frozen position carries, 0 whatever its byte.
+// What a byte of the mask means is asked here alone: whether it may stand in a mask, whether it marks an information
+// position, and which bit a frozen position carries, 0 whatever its byte.
 fn is_mask_byte(kind: u8) -> bool
     ensures { λ r. ⌜ r ≡ isMaskByte kind ⌝ }
 {
@@ -93,7 +95,8 @@ fn frozen_bit(kind: u8) -> u8
     0
 }
 
-// Whether the first n bytes are a mask's. A byte that is at most the largest one may stand in a mask where that one may.
+// Whether the first n bytes are a mask's. A byte that is at most the largest one may stand in a mask where that one
+// may.
 fn mask_accepted(mask: &[u8], n: usize) -> bool
     requires { ⌜ n ≤ length (now mask) ⌝ }
     ensures { λ r. ⌜ r ≡ maskAccepted n (now (mask .entry)) ⌝ }
@@ -174,7 +177,8 @@ fn encode_refusal(code: Code, mask: &[u8], message: &[u8], room: usize) -> Answe
 fn place(mask: &[u8], message: &[u8], n: usize, block: &mut [u8])
     requires { ⌜ (n ≤ length (now mask)) × (n ≤ length (now block)) ⌝ }
     requires { ⌜ MessageAccepted (now message) (informationCount (now mask) n) ⌝ }
-    ensures { λ _. ⌜ now (block .exit) ≡ overwrite n (λ i. byteOf (uBit (now (mask .entry)) (now (message .entry)) i)) (now (block .entry)) ⌝ }
+    ensures { λ _. ⌜ now (block .exit)
+        ≡ overwrite n (λ i. byteOf (uBit (now (mask .entry)) (now (message .entry)) i)) (now (block .entry)) ⌝ }
 {
     let mut used = 0;
     let mut i = 0;
@@ -192,7 +196,10 @@ fn place(mask: &[u8], message: &[u8], n: usize, block: &mut [u8])
 // The run of d positions from p on takes the exclusive-or with the run of d behind it.
 fn join(block: &mut [u8], p: usize, d: usize)
     requires { ⌜ p + d + d ≤ length (now block) ⌝ }
-    ensures { λ _. ⌜ now (block .exit) ≡ overwriteFrom p d (λ i. bitXor (getD (now (block .entry)) (p + i) 0) (getD (now (block .entry)) (p + d + i) 0)) (now (block .entry)) ⌝ }
+    ensures { λ _. ⌜ now (block .exit)
+        ≡ overwriteFrom p d
+        (λ i. bitXor (getD (now (block .entry)) (p + i) 0) (getD (now (block .entry)) (p + d + i) 0))
+        (now (block .entry)) ⌝ }
 {
     let mut i = 0;
     while i < d {
@@ -205,7 +212,8 @@ fn join(block: &mut [u8], p: usize, d: usize)
 fn butterflies(block: &mut [u8], m: u32, t: u32)
     requires { ⌜ (m ≤ largestM) × (t < m) ⌝ }
     requires { ⌜ Bits (2 ^ m) (now block) ⌝ }
-    ensures { λ _. ⌜ now (block .exit) ≡ overwrite (2 ^ m) (λ i. byteOf (columnStep t (bitsOf (now (block .entry))) i)) (now (block .entry)) ⌝ }
+    ensures { λ _. ⌜ now (block .exit)
+        ≡ overwrite (2 ^ m) (λ i. byteOf (columnStep t (bitsOf (now (block .entry))) i)) (now (block .entry)) ⌝ }
 {
     let n = power_of_two(m);
     let d = power_of_two(t);
@@ -223,7 +231,8 @@ fn butterflies(block: &mut [u8], m: u32, t: u32)
 pub fn transform(block: &mut [u8], m: u32)
     requires { ⌜ m ≤ largestM ⌝ }
     requires { ⌜ Bits (2 ^ m) (now block) ⌝ }
-    ensures { λ _. ⌜ now (block .exit) ≡ overwrite (2 ^ m) (λ i. byteOf (coded m (bitsOf (now (block .entry))) i)) (now (block .entry)) ⌝ }
+    ensures { λ _. ⌜ now (block .exit)
+        ≡ overwrite (2 ^ m) (λ i. byteOf (coded m (bitsOf (now (block .entry))) i)) (now (block .entry)) ⌝ }
 {
     let mut s = 0;
     while s < m {
@@ -234,8 +243,10 @@ pub fn transform(block: &mut [u8], m: u32)
 
 // The message, coded, in the first 2^m elements of the block.
 pub fn encode(code: Code, mask: &[u8], message: &[u8], block: &mut [u8]) -> Answer
-    ensures { λ r. ⌜ numberOf r ≡ encodeNumber code (now (mask .entry)) (now (message .entry)) (length (now (block .entry))) ⌝ }
-    ensures { λ r. ⌜ now (block .exit) ≡ encodeBlock code (now (mask .entry)) (now (message .entry)) (now (block .entry)) ⌝ }
+    ensures { λ r. ⌜ numberOf r
+        ≡ encodeNumber code (now (mask .entry)) (now (message .entry)) (length (now (block .entry))) ⌝ }
+    ensures { λ r. ⌜ now (block .exit)
+        ≡ encodeBlock code (now (mask .entry)) (now (message .entry)) (now (block .entry)) ⌝ }
 {
     match encode_refusal(code, mask, message, block.len()) {
         Answer::Refused(refusal) => Answer::Refused(refusal),
@@ -267,8 +278,11 @@ fn read_out_refusal(code: Code, mask: &[u8], bytes: &[u8], room: usize) -> Answe
 
 // The bytes at the information positions of the first n, one behind the other.
 fn gather(mask: &[u8], bytes: &[u8], n: usize, message: &mut [u8])
-    requires { ⌜ (n ≤ length (now mask)) × (n ≤ length (now bytes)) × (informationCount (now mask) n ≤ length (now message)) ⌝ }
-    ensures { λ _. ⌜ now (message .exit) ≡ overwrite (informationCount (now (mask .entry)) n) (λ k. getD (informationBytes (now (mask .entry)) (now (bytes .entry)) n) k 0) (now (message .entry)) ⌝ }
+    requires { ⌜ (n ≤ length (now mask)) × (n ≤ length (now bytes))
+        × (informationCount (now mask) n ≤ length (now message)) ⌝ }
+    ensures { λ _. ⌜ now (message .exit)
+        ≡ overwrite (informationCount (now (mask .entry)) n)
+        (λ k. getD (informationBytes (now (mask .entry)) (now (bytes .entry)) n) k 0) (now (message .entry)) ⌝ }
 {
     let mut count = 0;
     let mut i = 0;
@@ -283,8 +297,10 @@ fn gather(mask: &[u8], bytes: &[u8], n: usize, message: &mut [u8])
 
 // The bytes at the information positions, in rising order, in the first K elements of the message.
 pub fn read_out(code: Code, mask: &[u8], bytes: &[u8], message: &mut [u8]) -> Answer
-    ensures { λ r. ⌜ numberOf r ≡ readOutNumber code (now (mask .entry)) (now (bytes .entry)) (length (now (message .entry))) ⌝ }
-    ensures { λ r. ⌜ now (message .exit) ≡ readOutMessage code (now (mask .entry)) (now (bytes .entry)) (now (message .entry)) ⌝ }
+    ensures { λ r. ⌜ numberOf r
+        ≡ readOutNumber code (now (mask .entry)) (now (bytes .entry)) (length (now (message .entry))) ⌝ }
+    ensures { λ r. ⌜ now (message .exit)
+        ≡ readOutMessage code (now (mask .entry)) (now (bytes .entry)) (now (message .entry)) ⌝ }
 {
     match read_out_refusal(code, mask, bytes, message.len()) {
         Answer::Refused(refusal) => Answer::Refused(refusal),
