@@ -1,5 +1,5 @@
--- Laws of `every`: it reads the first n places alone, is true where each of them is, grows by one place, and its first place
--- can be taken off.
+-- Laws of `every`: it reads the first n places alone, is true where each of them is, grows by one place, and its first
+-- place can be taken off.
 use Prim.Native.Nat.{ℕ, zero, suc, _+_, _<_}
 use mathlib.Core.Path.{_≡_, refl, sym, ap, ap₂, _∙_}
 use mathlib.Core.Bool.{Bool, true, false, _&&_, and-true, and-assoc}

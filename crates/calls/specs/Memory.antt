@@ -1,5 +1,5 @@
--- What lent memory holds after a call: the answer in its stated places, its old contents everywhere else, and after a refusal its old
--- contents throughout. Definitions only.
+-- What lent memory holds after a call: the answer in its stated places, its old contents everywhere else, and after a
+-- refusal its old contents throughout. Definitions only.
 use Prim.Native.Nat.{ℕ, zero, suc}
 use mathlib.Core.List.{List, [], _∷_}
 

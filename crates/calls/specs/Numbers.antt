@@ -1,4 +1,5 @@
--- Document 01, "Numbers by who causes them": the number of each refusal, and which of several is returned. Definitions only.
+-- Document 01, "Numbers by who causes them": the number of each refusal, and which of several is returned. Definitions
+-- only.
 use Prim.Native.Nat.{ℕ, zero, suc}
 use mathlib.Core.Bool.{Bool, true, false, _&&_}
 use lib.Dec.{leb}
@@ -45,7 +46,8 @@ abbrev pub numberOf : Answer → ℕ
 numberOf Done = 0
 numberOf (Refused r) = refusalNumber r
 
--- a test that refuses with a number where it fails; a chain of them gives the number of the first that fails, and 0 where all pass
+-- a test that refuses with a number where it fails; a chain of them gives the number of the first that fails, and 0
+-- where all pass
 abbrev pub check : Bool → ℕ → ℕ → ℕ
 check true number next = next
 check false number next = number

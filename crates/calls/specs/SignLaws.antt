@@ -1,5 +1,5 @@
--- Laws of the sign: a number's size stays when its sign turns, a sign turned twice is as it was, and two turns are one by
--- the exclusive-or of their bits.
+-- Laws of the sign: a number's size stays when its sign turns, a sign turned twice is as it was, and two turns are one
+-- by the exclusive-or of their bits.
 use Prim.Native.Nat.{ℕ, zero, suc}
 use mathlib.Core.Path.{_≡_, refl, sym}
 use mathlib.Core.Bool.{Bool, true, false}

@@ -27,7 +27,8 @@ pub record Accepted (m C : ℕ) (channel : Channel) (samples : List Float) (room
   pub usable : T (isUsable channel)
   pub finite : T (allFinite (2 ^ m) samples)
 
-pub accepted : (m C : ℕ) (channel : Channel) (samples : List Float) (room : ℕ) → frontNumber m C channel samples room ≡ 0
+pub accepted : (m C : ℕ) (channel : Channel) (samples : List Float) (room : ℕ)
+    → frontNumber m C channel samples room ≡ 0
     → Accepted m C channel samples room
 accepted m C channel samples room e =
     let one = check-passed (between 1 largestM m) 0 _ e in

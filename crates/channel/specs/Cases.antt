@@ -1,5 +1,5 @@
--- The front's definitions at chosen cases, by computing: document 01's P10, halves, the ceiling, zeros, the ends of the format, and
--- each refusal. Every group is a list of results beside the list of what is expected.
+-- The front's definitions at chosen cases, by computing: document 01's P10, halves, the ceiling, zeros, the ends of the
+-- format, and each refusal. Every group is a list of results beside the list of what is expected.
 use Prim.Native.Nat.{ℕ}
 use mathlib.Core.Path.{_≡_, refl}
 use mathlib.Core.Bool.{true, false}
@@ -70,12 +70,14 @@ unfolding ofBits mul quantised
 lowest-ceiling = refl
 
 -- ---- the highest ceiling, 2047, with 2046.25, 2046.5, 2046.75, -2046.75, 2047 and 2048
-highest-ceiling : llrs 2047 plain (0x44ff_c800 ∷ 0x44ff_d000 ∷ 0x44ff_d800 ∷ 0xc4ff_d800 ∷ 0x44ff_e000 ∷ 0x4500_0000 ∷ [])
+highest-ceiling : llrs 2047 plain
+    (0x44ff_c800 ∷ 0x44ff_d000 ∷ 0x44ff_d800 ∷ 0xc4ff_d800 ∷ 0x44ff_e000 ∷ 0x4500_0000 ∷ [])
     ≡ pos 2046 ∷ pos 2047 ∷ pos 2047 ∷ negsuc 2046 ∷ pos 2047 ∷ pos 2047 ∷ []
 unfolding ofBits mul quantised
 highest-ceiling = refl
 
--- ---- the smallest samples with the factor 1, the largest and the smallest; a product beyond the format is beyond the ceiling
+-- ---- the smallest samples with the factor 1, the largest and the smallest; a product beyond the format is beyond the
+-- ceiling
 ends : llrs 31 plain smallest ∷ llrs 31 strongest smallest ∷ llrs 31 weakest smallest ∷ llrs 31 strongest largest ∷ []
     ≡ (pos 0 ∷ pos 0 ∷ []) ∷ (pos 0 ∷ pos 0 ∷ []) ∷ (pos 0 ∷ pos 0 ∷ []) ∷ (pos 31 ∷ negsuc 30 ∷ []) ∷ []
 unfolding ofBits mul quantised
@@ -112,7 +114,8 @@ abbrev pair : List Float
 pair = one ∷ one ∷ []
 
 -- none: just enough, more than enough, and a NaN behind the two samples
-accepted : frontNumber 1 31 plain pair 2 ∷ frontNumber 1 2047 Erasing (one ∷ pair) 9 ∷ frontNumber 1 1 plain (one ∷ one ∷ nan ∷ []) 2 ∷ []
+accepted : frontNumber 1 31 plain pair 2 ∷ frontNumber 1 2047 Erasing (one ∷ pair) 9
+    ∷ frontNumber 1 1 plain (one ∷ one ∷ nan ∷ []) 2 ∷ []
     ≡ 0 ∷ 0 ∷ 0 ∷ []
 unfolding ofBits isFinite isAboveZero
 accepted = refl
@@ -137,7 +140,8 @@ short-slices = refl
 abbrev factors : List Float
 factors = float 0x0000_0000 ∷ float 0x8000_0000 ∷ float 0xbf80_0000 ∷ inf false ∷ nan ∷ float 0x0000_0001 ∷ []
 
-unusable : map (λ factor. frontNumber 1 31 (Gaussian factor) pair 2) factors ∷ map (λ weight. frontNumber 1 31 (Flipping weight) pair 2) factors ∷ []
+unusable : map (λ factor. frontNumber 1 31 (Gaussian factor) pair 2) factors
+    ∷ map (λ weight. frontNumber 1 31 (Flipping weight) pair 2) factors ∷ []
     ≡ (11 ∷ 11 ∷ 11 ∷ 11 ∷ 11 ∷ 0 ∷ []) ∷ (11 ∷ 11 ∷ 11 ∷ 11 ∷ 11 ∷ 0 ∷ []) ∷ []
 unfolding ofBits isFinite isAboveZero
 unusable = refl

@@ -1,5 +1,5 @@
--- Document 01, "From samples to LLRs", and the front's lines of "Numbers by who causes them". Definitions only.
--- A float is its value, as `lib.Ieee` has it: `nan`, `inf s`, or `fin s m e`, which is m * 2 ^ e, negative where s is true.
+-- Document 01, "From samples to LLRs", and the front's lines of "Numbers by who causes them". Definitions only. A float
+-- is its value, as `lib.Ieee` has it: `nan`, `inf s`, or `fin s m e`, which is m * 2 ^ e, negative where s is true.
 use Prim.Native.Nat.{ℕ, zero, suc, _+_, _*_, _/_, _^_}
 use mathlib.Core.Bool.{Bool, true, false, not, _&&_, cond}
 use mathlib.Core.List.{List}
@@ -24,7 +24,8 @@ withSampleSign (inf s) size = cond s (neg size) size
 withSampleSign (fin s zero e) size = fin false 0 (pos 0)
 withSampleSign (fin s (suc m) e) size = cond s (neg size) size
 
--- Gaussian: one 32-bit product, rounded once. Flipping: the weight with the sample's sign. Erasing: the ceiling, C * 2 ^ 0, with it
+-- Gaussian: one 32-bit product, rounded once. Flipping: the weight with the sample's sign. Erasing: the ceiling, C * 2
+-- ^ 0, with it
 abbrev pub valueOf : ℕ → Channel → Float → Float
 valueOf C (Gaussian factor) x = mul binary32 x factor
 valueOf C (Flipping weight) x = withSampleSign x weight
@@ -40,7 +41,8 @@ nearest n d = (2 * n + d) / (2 * d)
 abbrev pub roundedSize : ℕ → ℕ → ℕ → ℕ
 roundedSize C n d = cond (leb (C * d) n) C (nearest n d)
 
--- an infinity, the product too large for the format, counts as beyond the ceiling. (No value of an accepted call is a NaN.)
+-- an infinity, the product too large for the format, counts as beyond the ceiling. (No value of an accepted call is a
+-- NaN.)
 unfoldable pub quantised : ℕ → Float → ℤ
 quantised C nan = pos 0
 quantised C (inf s) = flipped s (pos C)

@@ -1,10 +1,21 @@
--- Laws of the front's definitions, each for every float and every channel: `nearest` is the nearest whole number; an LLR is no larger than
--- the ceiling and odd in its sample; samples flipped at some places give the same number and the LLRs flipped at those places.
+-- Laws of the front's definitions, each for every float and every channel: `nearest` is the nearest whole number; an
+-- LLR is no larger than the ceiling and odd in its sample; samples flipped at some places give the same number and the
+-- LLRs flipped at those places.
 use Prim.Native.Nat.{ℕ, zero, suc, _+_, _*_, _/_, _^_, _≤_, _<_, zero-le}
 use mathlib.Core.Path.{_≡_, refl, sym, ap, ap₂, _∙_}
 use mathlib.Core.Bool.{Bool, true, false, not, _&&_, cond}
 use mathlib.Core.List.{List, [], _∷_}
-use native.Mathlib.Nat.{le-refl, mul-pos, zero-lt-suc, not-suc-le-zero, mul-div-le, lt-mul-div-succ, le-of-suc-le-suc, div-lt-iff-lt-mul, le-div-iff-mul-le}
+use native.Mathlib.Nat.{
+  le-refl,
+  mul-pos,
+  zero-lt-suc,
+  not-suc-le-zero,
+  mul-div-le,
+  lt-mul-div-succ,
+  le-of-suc-le-suc,
+  div-lt-iff-lt-mul,
+  le-div-iff-mul-le,
+}
 use native.Mathlib.Numerals.{add-one}
 use native.Mathlib.Omega.{arith}
 use lib.Dec.{leb, ltb, eqb}
@@ -40,8 +51,10 @@ use Rattle.channel.specs.declared.Channel.the-variants.{Gaussian, Flippi
 
 -- with N for `nearest n d`: N - 1/2 ≤ n / d < N + 1/2, so a half goes up
 pub nearest-is : (n d : ℕ) → 0 < d → (2 * d * nearest n d ≤ 2 * n + d) × (2 * n + d < 2 * d * suc (nearest n d))
-nearest-is n d h =
-    (mul-div-le (2 * n + d) (2 * d), rw add-one at (lt-mul-div-succ (2 * n + d) {b = 2 * d} (mul-pos (zero-lt-suc 1) h)))
+nearest-is n d h = (
+  mul-div-le (2 * n + d) (2 * d),
+  rw add-one at (lt-mul-div-succ (2 * n + d) {b = 2 * d} (mul-pos (zero-lt-suc 1) h)),
+)
 
 pub rounded-bound : (C n d : ℕ) → 0 < d → roundedSize C n d ≤ C
 rounded-bound C n d h = by-test (leb (C * d) n) refl
@@ -51,7 +64,8 @@ rounded-bound C n d h = by-test (leb (C * d) n) refl
 
     by-test : (b : Bool) → leb (C * d) n ≡ b → cond b C (nearest n d) ≤ C
     by-test true e = le-refl C
-    by-test false e = le-of-suc-le-suc (div-lt-iff-lt-mul {k = 2 * d} (mul-pos (zero-lt-suc 1) h) .1 (below (leb-false (C * d) n e)))
+    by-test false e =
+        le-of-suc-le-suc (div-lt-iff-lt-mul {k = 2 * d} (mul-pos (zero-lt-suc 1) h) .1 (below (leb-false (C * d) n e)))
 
 -- whether the size reaches the ceiling, and its whole number, depend only on the value of the fraction
 pub reaches : (C n d : ℕ) → 0 < d → leb (C * d) n ≡ leb C (n / d)
@@ -65,7 +79,8 @@ pub rounded-same : (C a b c d : ℕ) → 0 < b → 0 < d → a * d ≡ c * b →
 rounded-same C a b c d p q e =
     ap₂ (λ (t : Bool) (n : ℕ). cond t C n)
     (reaches C a b p ∙ ap (leb C) (div-same a b c d p q e) ∙ sym (reaches C c d q))
-    (div-same (2 * a + b) (2 * b) (2 * c + d) (2 * d) (mul-pos (zero-lt-suc 1) p) (mul-pos (zero-lt-suc 1) q) (omega arith))
+    (div-same (2 * a + b) (2 * b) (2 * c + d) (2 * d) (mul-pos (zero-lt-suc 1) p) (mul-pos (zero-lt-suc 1) q)
+    (omega arith))
 
 pub rounded-zero : (C : ℕ) → roundedSize C 0 1 ≡ 0
 rounded-zero zero = refl
@@ -145,7 +160,8 @@ mul-neg f (fin s m e) (fin t n d) =
     ap (λ (b : Bool). round f b (m * up e * (n * up d)) (down e * down d)) (unlike-not s t)
     ∙ round-neg f (unlike s t) (m * up e * (n * up d)) (down e * down d)
 
-either-odd : (C : ℕ) (s : Bool) (size : Float) → quantised C (cond (not s) (neg size) size) ≡ negℤ (quantised C (cond s (neg size) size))
+either-odd : (C : ℕ) (s : Bool) (size : Float)
+    → quantised C (cond (not s) (neg size) size) ≡ negℤ (quantised C (cond s (neg size) size))
 either-odd C true size = sym (ap negℤ (quantised-odd C size) ∙ negℤ-negℤ (quantised C size))
 either-odd C false size = quantised-odd C size
 
@@ -153,7 +169,8 @@ zero-odd : (C : ℕ) → quantised C (fin false 0 (pos 0)) ≡ negℤ (quantised
 unfolding quantised
 zero-odd C = rw (rounded-zero C)
 
-sign-odd : (C : ℕ) (x size : Float) → quantised C (withSampleSign (neg x) size) ≡ negℤ (quantised C (withSampleSign x size))
+sign-odd : (C : ℕ) (x size : Float)
+    → quantised C (withSampleSign (neg x) size) ≡ negℤ (quantised C (withSampleSign x size))
 unfolding withSampleSign neg quantised
 sign-odd C nan size = refl
 sign-odd C (inf s) size = either-odd C s size
@@ -167,7 +184,8 @@ llr-odd C Erasing x = sign-odd C x (fin false C (pos 0))
 
 -- ---- samples flipped at some places
 
-llr-flipped : (C : ℕ) (channel : Channel) (b : Bool) (x : Float) → llrOf C channel (flippedSample b x) ≡ flipped b (llrOf C channel x)
+llr-flipped : (C : ℕ) (channel : Channel) (b : Bool) (x : Float)
+    → llrOf C channel (flippedSample b x) ≡ flipped b (llrOf C channel x)
 llr-flipped C channel true x = llr-odd C channel x
 llr-flipped C channel false x = refl
 
@@ -194,7 +212,8 @@ sample-flipped (suc n) bit (x ∷ samples) (suc i) h = sample-flipped n (λ j. b
 all-flipped : (n k : ℕ) (bit : ℕ → Bool) (samples : List Float) → k ≤ n
     → allFinite k (flippedSamples n bit samples) ≡ allFinite k samples
 all-flipped n k bit samples h =
-    every-same k _ _ (λ i l. ap isFinite (sample-flipped n bit samples i (omega arith)) ∙ finite-flipped (bit i) (getD samples i nan))
+    every-same k _ _
+    (λ i l. ap isFinite (sample-flipped n bit samples i (omega arith)) ∙ finite-flipped (bit i) (getD samples i nan))
 
 -- the number of the answer stays
 pub front-number-flipped : (m C : ℕ) (channel : Channel) (bit : ℕ → Bool) (samples : List Float) (room : ℕ)
@@ -204,7 +223,8 @@ front-number-flipped m C channel bit samples room =
 
 -- each LLR is flipped where its sample is
 pub llr-at-flipped : (n C : ℕ) (channel : Channel) (bit : ℕ → Bool) (samples : List Float) (i : ℕ) → i < n
-    → llrOf C channel (getD (flippedSamples n bit samples) i nan) ≡ flipped (bit i) (llrOf C channel (getD samples i nan))
+    → llrOf C channel (getD (flippedSamples n bit samples) i nan)
+    ≡ flipped (bit i) (llrOf C channel (getD samples i nan))
 llr-at-flipped n C channel bit samples i h =
     ap (llrOf C channel) (sample-flipped n bit samples i h) ∙ llr-flipped C channel (bit i) (getD samples i nan)
 
@@ -216,4 +236,5 @@ front-llrs-flipped m C channel bit samples old =
     ap₂ (λ (number : ℕ) (new : List ℤ). unlessRefused number new old)
     (front-number-flipped m C channel bit samples (length old))
     (overwrite-same (2 ^ m) (λ i. llrOf C channel (getD (flippedSamples (2 ^ m) bit samples) i nan))
-    (λ i. flipped (bit i) (llrOf C channel (getD samples i nan))) old (λ i h k. llr-at-flipped (2 ^ m) C channel bit samples i h))
+    (λ i. flipped (bit i) (llrOf C channel (getD samples i nan))) old
+    (λ i h k. llr-at-flipped (2 ^ m) C channel bit samples i h))

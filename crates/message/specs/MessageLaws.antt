@@ -1,5 +1,5 @@
--- Laws of the message arithmetic, for every rule and every two numbers: sizes, orders, and how a turned sign comes out; and f by the
--- cases of document 01. `RuleInRange` is what the decoder has tested of a rule.
+-- Laws of the message arithmetic, for every rule and every two numbers: sizes, orders, and how a turned sign comes out;
+-- and f by the cases of document 01. `RuleInRange` is what the decoder has tested of a rule.
 use Prim.Native.Nat.{ℕ, zero, suc, _*_, _/_, _≤_, min}
 use mathlib.Core.Path.{_≡_, refl, sym, ap, ap₂, _∙_}
 use mathlib.Core.Bool.{Bool, true, false, cond, _||_}
@@ -94,7 +94,8 @@ f-flipped-first rule false a b = refl
 f-flipped-first rule true a b = f-negated rule a b
 
 -- the product of the signs comes out of f
-pub f-flipped : (rule : MinSum) (s t : Bool) (a b : ℤ) → f rule (flipped s a) (flipped t b) ≡ flipped (xor s t) (f rule a b)
+pub f-flipped : (rule : MinSum) (s t : Bool) (a b : ℤ)
+    → f rule (flipped s a) (flipped t b) ≡ flipped (xor s t) (f rule a b)
 f-flipped rule s t a b =
     f-flipped-first rule s a (flipped t b)
     ∙ ap (flipped s) (f-comm rule a (flipped t b) ∙ f-flipped-first rule t b a ∙ ap (flipped t) (f-comm rule b a))
@@ -112,7 +113,8 @@ signOf (pos zero) = pos 0
 signOf (pos (suc n)) = pos 1
 signOf (negsuc n) = negsuc 0
 
--- 0 if either is 0; else the size is k times the smaller size, divided by 16 and cut down, and the sign is the product of the signs
+-- 0 if either is 0; else the size is k times the smaller size, divided by 16 and cut down, and the sign is the product
+-- of the signs
 abbrev pub fByCases : MinSum → ℤ → ℤ → ℤ
 fByCases rule a b =
     cond (isZero a || isZero b)
@@ -124,7 +126,9 @@ unfolding f
 f-cases rule (pos zero) b = f-zero rule b
 f-cases rule (pos (suc n)) (pos zero) = f-comm rule (pos (suc n)) (pos 0) ∙ f-zero rule (pos (suc n))
 f-cases rule (pos (suc n)) (pos (suc m)) = ap pos (sym (one-mul _))
-f-cases rule (pos (suc n)) (negsuc m) = ap (λ (i : ℕ). negℤ (pos i)) (sym (one-mul (rule .scale * min (suc n) (suc m) / 16)))
+f-cases rule (pos (suc n)) (negsuc m) =
+    ap (λ (i : ℕ). negℤ (pos i)) (sym (one-mul (rule .scale * min (suc n) (suc m) / 16)))
 f-cases rule (negsuc n) (pos zero) = f-comm rule (negsuc n) (pos 0) ∙ f-zero rule (negsuc n)
-f-cases rule (negsuc n) (pos (suc m)) = ap (λ (i : ℕ). negℤ (pos i)) (sym (one-mul (rule .scale * min (suc n) (suc m) / 16)))
+f-cases rule (negsuc n) (pos (suc m)) =
+    ap (λ (i : ℕ). negℤ (pos i)) (sym (one-mul (rule .scale * min (suc n) (suc m) / 16)))
 f-cases rule (negsuc n) (negsuc m) = ap pos (sym (one-mul _))

@@ -37,7 +37,8 @@ pub record Largest (bytes : List ℕ) (n most : ℕ) : Type 0 where
 pub largest-none : {bytes : List ℕ} → Largest bytes 0 0
 largest-none = record { is = λ b. le-leb 0 b (omega arith) }
 
-pub largest-next : {bytes : List ℕ} {i most : ℕ} → Largest bytes i most → Largest bytes (i + 1) (max most (getD bytes i 0))
+pub largest-next : {bytes : List ℕ} {i most : ℕ} → Largest bytes i most
+    → Largest bytes (i + 1) (max most (getD bytes i 0))
 largest-next {bytes} {i} {most} h = record {
   is = λ b. max-leb most (getD bytes i 0) b ∙ every-next i (λ j. leb (getD bytes j 0) b) (h .is b) refl;
 }
@@ -84,23 +85,30 @@ module _ {mask message : List ℕ} {i used : ℕ} {old block : List ℕ} (h : Pl
   pub placed-length : length block ≡ length old
   placed-length = ap length (h .is) ∙ simp length-overwrite
 
-  store : {v : ℕ} → v ≡ byteOf (uBit mask message i) → i < length old → set block i v ≡ overwrite (i + 1) (λ j. byteOf (uBit mask message j)) old
+  store : {v : ℕ} → v ≡ byteOf (uBit mask message i) → i < length old
+      → set block i v ≡ overwrite (i + 1) (λ j. byteOf (uBit mask message j)) old
   store e l = rw (e, h .is, add-one i) (overwrite-store i (λ j. byteOf (uBit mask message j)) old l)
 
   pub placed-information : isInformation (getD mask i 0) ≡ true → getD message used 0 ≤ 1 → i < length old
       → Placed mask message (i + 1) (used + 1) old (set block i (getD message used 0))
   placed-information z bit l = record {
     is = store
-        (sym (ap byteOf (kind-information (bitOf (getD message (informationCount mask i) 0)) (λ bit. bit) (getD mask i 0) z)
+        (sym (ap byteOf
+        (kind-information (bitOf (getD message (informationCount mask i) 0)) (λ bit. bit) (getD mask i 0) z)
         ∙ rw (h .count) (byte-of-bit _ (rw (h .count) at bit))))
         l;
     count = rw (h .count) (count-information mask i z);
   }
 
-  pub placed-frozen : isInformation (getD mask i 0) ≡ false → {v : ℕ} → v ≡ byteOf (frozenBit (getD mask i 0)) → i < length old
+  pub placed-frozen : isInformation (getD mask i 0) ≡ false → {v : ℕ} → v ≡ byteOf (frozenBit (getD mask i 0))
+      → i < length old
       → Placed mask message (i + 1) used old (set block i v)
   placed-frozen z e l = record {
-    is = store (e ∙ ap byteOf (sym (kind-frozen (bitOf (getD message (informationCount mask i) 0)) (λ bit. bit) (getD mask i 0) z))) l;
+    is =
+        store
+        (e
+        ∙ ap byteOf
+        (sym (kind-frozen (bitOf (getD message (informationCount mask i) 0)) (λ bit. bit) (getD mask i 0) z))) l;
     count = h .count ∙ count-frozen mask i z;
   }
 
@@ -117,7 +125,8 @@ module _ (mask bytes : List ℕ) where
   pub information-length : (n : ℕ) → length (informationBytes mask bytes n) ≡ informationCount mask n
   information-length zero = refl
   information-length (suc n) =
-      simp length-append (ap₂ (λ (a b : ℕ). a + b) (information-length n) (by-kind-length (getD mask n 0) (getD bytes n 0)))
+      simp length-append
+      (ap₂ (λ (a b : ℕ). a + b) (information-length n) (by-kind-length (getD mask n 0) (getD bytes n 0)))
 
   -- the byte of an information position stands at that position's count
   pub information-at : (n i : ℕ) → isInformation (getD mask i 0) ≡ true → i < n
@@ -141,7 +150,8 @@ pub record Gathered (mask bytes : List ℕ) (n i count : ℕ) (old message : Lis
 pub gathered-none : {mask bytes : List ℕ} {n : ℕ} {old : List ℕ} → Gathered mask bytes n 0 0 old old
 gathered-none = record { is = refl; counted = refl }
 
-module _ {mask bytes : List ℕ} {n i count : ℕ} {old message : List ℕ} (h : Gathered mask bytes n i count old message) where
+module _ {mask bytes : List ℕ} {n i count : ℕ} {old message : List ℕ}
+    (h : Gathered mask bytes n i count old message) where
   pub gathered-length : length message ≡ length old
   gathered-length = ap length (h .is) ∙ simp length-overwrite
 
@@ -149,7 +159,8 @@ module _ {mask bytes : List ℕ} {n i count : ℕ} {old message : List ℕ} (h :
       → Gathered mask bytes n (i + 1) (count + 1) old (set message count (getD bytes i 0))
   gathered-information z l r = record {
     is =
-        let at : getD bytes i 0 ≡ getD (informationBytes mask bytes n) count 0 = rw (h .counted) (sym (information-at mask bytes n i z l)) in
+        let at : getD bytes i 0 ≡ getD (informationBytes mask bytes n) count 0
+        = rw (h .counted) (sym (information-at mask bytes n i z l)) in
         rw (at, h .is, add-one count) (overwrite-store count (λ k. getD (informationBytes mask bytes n) k 0) old r);
     counted = rw (h .counted) (count-information mask i z);
   }

@@ -43,7 +43,8 @@ coded m u i = parity (2 ^ m) (λ j. includes i j && u j)
 
 abbrev pub informationBytes : List ℕ → List ℕ → ℕ → List ℕ
 informationBytes mask bytes zero = []
-informationBytes mask bytes (suc n) = informationBytes mask bytes n ++ byKind (getD mask n 0) (getD bytes n 0 ∷ []) (λ bit. [])
+informationBytes mask bytes (suc n) =
+    informationBytes mask bytes n ++ byKind (getD mask n 0) (getD bytes n 0 ∷ []) (λ bit. [])
 
 -- ---- the coder: 1; 7, mask or block; 8; 9; 7, message; 13. The read-out: 1; 7, mask or bytes; 8; 9; 7, message
 

@@ -25,7 +25,8 @@ pub record CodeAccepted (code : Code) (mask : List ℕ) (room : ℕ) : Type 0 wh
   pub values : maskAccepted (2 ^ code .m) mask ≡ true
   pub information : 1 ≤ informationCount mask (2 ^ code .m)
 
-pub code-accepted : (code : Code) (mask : List ℕ) (room : ℕ) → codeNumber code mask room ≡ 0 → CodeAccepted code mask room
+pub code-accepted : (code : Code) (mask : List ℕ) (room : ℕ) → codeNumber code mask room ≡ 0
+    → CodeAccepted code mask room
 code-accepted code mask room h =
     let one = check-passed _ 0 _ h in
     let seven = check-passed _ 6 _ (one .1) in

@@ -1,5 +1,6 @@
--- Document 01, "Messages": the columns and the steps between them, here of bits. Column 0 is u, column m is the block sent
--- (`column-coded` of TransformLaws), and the decoder's message for a position of column s stands for the bit there. Definitions only.
+-- Document 01, "Messages": the columns and the steps between them, here of bits. Column 0 is u, column m is the block
+-- sent (`column-coded` of TransformLaws), and the decoder's message for a position of column s stands for the bit
+-- there. Definitions only.
 use Prim.Native.Nat.{ℕ, zero, suc, _+_, _-_, _/_, _%_, _^_}
 use mathlib.Core.Bool.{Bool}
 use Rattle.calls.specs.Bits.{xor}
@@ -14,7 +15,8 @@ module _ {A : Type 0} where
   bySide zero upper lower = upper
   bySide (suc n) upper lower = lower
 
--- one step over the distance d = 2 ^ t: an upper position i takes the exclusive-or with i + d, a lower one keeps its bit
+-- one step over the distance d = 2 ^ t: an upper position i takes the exclusive-or with i + d, a lower one keeps its
+-- bit
 abbrev pub columnStep : ℕ → (ℕ → Bool) → ℕ → Bool
 columnStep t v i = bySide (digit t i) (xor (v i) (v (i + 2 ^ t))) (v i)
 

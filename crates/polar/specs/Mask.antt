@@ -1,5 +1,5 @@
--- Document 01, "The code": the mask has one byte for each position, and this is the one place that says what a byte means.
--- Definitions only.
+-- Document 01, "The code": the mask has one byte for each position, and this is the one place that says what a byte
+-- means. Definitions only.
 use Prim.Native.Nat.{ℕ, zero, suc}
 use mathlib.Core.Bool.{Bool, true, false}
 use mathlib.Core.List.{List}

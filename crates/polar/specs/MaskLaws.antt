@@ -13,7 +13,8 @@ module _ {A : Type 0} (atInformation : A) (atFrozen : Bool → A) where
       go information e = refl
       go (frozen bit) e = absurd (false≢true e)
 
-  pub kind-frozen : (byte : ℕ) → isInformation byte ≡ false → byKind byte atInformation atFrozen ≡ atFrozen (frozenBit byte)
+  pub kind-frozen : (byte : ℕ) → isInformation byte ≡ false
+      → byKind byte atInformation atFrozen ≡ atFrozen (frozenBit byte)
   kind-frozen byte = go (kindOf byte)
     where
       go : (k : Kind) → onKind k true (λ bit. false) ≡ false

@@ -14,6 +14,7 @@ picked-size true x y h k = h
 picked-size false x y h k = k
 
 pub combined : (rule : MinSum) (b : Bool) (own sum x y : ℤ) → rule .scale ≤ largestScale → natAbs own ≤ rule .ceiling
-    → add rule (f rule (cond b own x) (cond b sum y)) (cond b (pos 0) own) ≡ cond b (f rule own sum) (add rule (f rule x y) own)
+    → add rule (f rule (cond b own x) (cond b sum y)) (cond b (pos 0) own)
+    ≡ cond b (f rule own sum) (add rule (f rule x y) own)
 combined rule true own sum x y scale h = add-zero rule (f rule own sum) (le-trans (f-size rule own sum scale) h)
 combined rule false own sum x y scale h = refl

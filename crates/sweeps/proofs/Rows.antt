@@ -30,9 +30,13 @@ module _ {m k i : ℕ} {g : ℕ → ℤ} {old w : List ℤ} (h : RowPart m k i g
   pub row-length : length w ≡ length old
   row-length = ap length (h .is) ∙ simp length-overwriteFrom
 
-  pub row-next : workspaceLength m ≤ length old → k < 2 * (m + 1) → i < 2 ^ m → {v : ℤ} → v ≡ g i → RowPart m k (i + 1) g old (set w (k * 2 ^ m + i) v)
+  pub row-next : workspaceLength m ≤ length old → k < 2 * (m + 1) → i < 2 ^ m → {v : ℤ} → v ≡ g i
+      → RowPart m k (i + 1) g old (set w (k * 2 ^ m + i) v)
   row-next room hk hi e =
-      record { is = rw (e, h .is, add-one i) (overwriteFrom-store (k * 2 ^ m) i g old (omega (arith, row-lt m k i hk hi))) }
+      record {
+        is = rw (e, h .is, add-one i)
+            (overwriteFrom-store (k * 2 ^ m) i g old (omega (arith, row-lt m k i hk hi)));
+      }
 
   pub row-all : i ≡ 2 ^ m → w ≡ setRow m k g old
   unfolding setRow
@@ -47,7 +51,8 @@ pub prior-is : (C byte : ℕ) → C ≤ largestCeiling
     → cond (isInformation byte) (pos 0) (toZ w16 C) ≡ byKind byte (pos 0) (λ bit. flipped bit (pos C))
 prior-is C byte h = go (isInformation byte) refl
   where
-    go : (b : Bool) → isInformation byte ≡ b → cond b (pos 0) (toZ w16 C) ≡ byKind byte (pos 0) (λ bit. flipped bit (pos C))
+    go : (b : Bool) → isInformation byte ≡ b
+        → cond b (pos 0) (toZ w16 C) ≡ byKind byte (pos 0) (λ bit. flipped bit (pos C))
     go true e = sym (kind-information (pos 0) (λ bit. flipped bit (pos C)) byte e)
     go false e =
         toZ-pos w16 {n = C} (omega arith)

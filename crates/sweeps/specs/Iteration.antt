@@ -12,8 +12,8 @@ use Rattle.message.specs.Message.{add, f}
 use Rattle.sweeps.specs.Workspace.{L, R, setL, setR, workspaceLength}
 
 module _ (rule : MinSum) where
-  -- step s joins columns s and s + 1 over the distance d = 2 ^ t. l is column s + 1 of L and r is column s of R; an upper position i
-  -- has its partner at i + d, a lower position j at j - d
+  -- step s joins columns s and s + 1 over the distance d = 2 ^ t. l is column s + 1 of L and r is column s of R; an
+  -- upper position i has its partner at i + d, a lower position j at j - d
   abbrev pub leftAt : ℕ → (ℕ → ℤ) → (ℕ → ℤ) → ℕ → ℤ
   leftAt t l r p =
       let d = 2 ^ t in

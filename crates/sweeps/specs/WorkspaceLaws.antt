@@ -33,7 +33,8 @@ module _ (m k n : ℕ) (g : ℕ → ℤ) (w : List ℤ) (hn : n ≤ 2 ^ m) where
 
   pub part-below : (j i : ℕ) → k < j → row m (overwriteFrom (k * 2 ^ m) n g w) j i ≡ row m w j i
   part-below j i hj =
-      overwriteFrom-behind (k * 2 ^ m) n g w (j * 2 ^ m + i) (pos 0) (omega (arith, suc-mul k (2 ^ m), mul-le-mul-right (2 ^ m) hj))
+      overwriteFrom-behind (k * 2 ^ m) n g w (j * 2 ^ m + i) (pos 0)
+      (omega (arith, suc-mul k (2 ^ m), mul-le-mul-right (2 ^ m) hj))
 
 module _ (m k : ℕ) (g : ℕ → ℤ) (w : List ℤ) where
   pub row-own : (i : ℕ) → WorkspaceFits m w → k < 2 * (m + 1) → i < 2 ^ m → row m (setRow m k g w) k i ≡ g i

@@ -20,7 +20,8 @@ returns : tie.Need-returns
 unfolding ofBits
 returns c =
     let a = c .before .args in
-    rw (held (c .before)) (minus-held (a .size) (omega arith)) ∙ sym (rw (c .if1 .taken) at (by-sign-is (a .sample) (a .size)))
+    rw (held (c .before)) (minus-held (a .size) (omega arith))
+    ∙ sym (rw (c .if1 .taken) at (by-sign-is (a .sample) (a .size)))
 
 returns-2 : tie.Need-returns-2
 unfolding ofBits

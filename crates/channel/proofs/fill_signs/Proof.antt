@@ -17,7 +17,8 @@ use Rattle.channel.proofs.fill_signs.Statement.{statement}
 use Rattle.channel.proofs.fill_signs.Tie as tie
 
 abbrev Inv-loop : tie.InvT-loop
-Inv-loop size n samples llr₀ i₀ llr i = (i ≤ n) × (llr ≡ overwrite i (λ k. bySign (getD samples k nan) (toZ w16 size)) llr₀)
+Inv-loop size n samples llr₀ i₀ llr i =
+    (i ≤ n) × (llr ≡ overwrite i (λ k. bySign (getD samples k nan) (toZ w16 size)) llr₀)
 
 abbrev μ-loop : tie.MeasureT-loop
 μ-loop size n samples llr₀ i₀ llr i = n - i

@@ -37,7 +37,8 @@ ends : (c : tie.After-rounded-size) (s : Bool) → leb 2147483648 (toBits binary
 ends c s e =
     let a = c .before .args in
     ap₂ (λ (t : Bool) (n : ℕ). flipped t (pos n)) (sym e) (c .rounded-size .ensures)
-    ∙ sym (quantised-bits (a .ceiling) (a .value) (omega arith) (subst T (sym (c .before .good .0 .1)) tt) (c .before .pre .0))
+    ∙ sym (quantised-bits (a .ceiling) (a .value) (omega arith) (subst T (sym (c .before .good .0 .1)) tt)
+    (c .before .pre .0))
 
 float-to-bits-bits : tie.Need-float-to-bits-bits
 float-to-bits-bits c = search needs
@@ -49,7 +50,8 @@ cast-size : tie.Need-cast-size
 cast-size c = record { sfits = omega (arith, small c) }
 
 sub-result : tie.Need-sub-result
-sub-result c = rw (held (c .before)) (minus-fits (pos (c .before .rounded-size .result)) (omega (arith, small (c .before))))
+sub-result c =
+    rw (held (c .before)) (minus-fits (pos (c .before .rounded-size .result)) (omega (arith, small (c .before))))
 
 returns : tie.Need-returns
 returns c = held (c .before) ∙ ends (c .before) false (lt-leb 2147483648 _ (c .if1 .taken))

@@ -57,7 +57,8 @@ slices c =
 usable : (c : tie.Else7) → isUsable (past11 c .args .channel) ≡ true
 usable c = sym (c .before .usable .ensures) ∙ not-false (c .before .usable .result) (c .if7 .left)
 
-finite : (c : tie.After-all-finite) → let a = past11 (c .before) .args in c .all-finite .result ≡ allFinite (2 ^ a .m) (now (a .samples))
+finite : (c : tie.After-all-finite)
+    → let a = past11 (c .before) .args in c .all-finite .result ≡ allFinite (2 ^ a .m) (now (a .samples))
 finite c = rw (width (c .before .before .before .before .before)) at (c .all-finite .ensures)
 
 -- past 7 the number is that of the last two tests
@@ -84,7 +85,12 @@ returns-2 c =
     let C = past1 (c .before) .args .ceiling in
     ⊎-elim
     (λ low. simp (block (c .before), lt-leb 1 C (low .taken)))
-    (λ high. simp (block (c .before), le-leb 1 C (high .0 .left), lt-leb C largestCeiling (ltb-true largestCeiling C (high .1 .taken))))
+    (λ high.
+    simp (
+      block (c .before),
+      le-leb 1 C (high .0 .left),
+      lt-leb C largestCeiling (ltb-true largestCeiling C (high .1 .taken)),
+    ))
     (c .if3 .came)
 
 shl-n : tie.Need-shl-n
@@ -112,7 +118,8 @@ usable-requires c κs = search needs
 
 returns-4 : tie.Need-returns-4
 returns-4 c =
-    sym (past (c .before .before) ∙ simp (sym (c .before .usable .ensures) ∙ not-true (c .before .usable .result) (c .if7 .taken)))
+    sym (past (c .before .before)
+    ∙ simp (sym (c .before .usable .ensures) ∙ not-true (c .before .usable .result) (c .if7 .taken)))
 
 all-finite-requires : tie.Need-all-finite-requires
 all-finite-requires c κs = search needs
@@ -120,12 +127,14 @@ all-finite-requires c κs = search needs
 returns-5 : tie.Need-returns-5
 returns-5 c =
     let e7 = c .before .before in
-    sym (past (e7 .before .before) ∙ simp (usable e7, sym (finite (c .before)) ∙ not-true (c .before .all-finite .result) (c .if8 .taken)))
+    sym (past (e7 .before .before)
+    ∙ simp (usable e7, sym (finite (c .before)) ∙ not-true (c .before .all-finite .result) (c .if8 .taken)))
 
 returns-6 : tie.Need-returns-6
 returns-6 c =
     let e7 = c .before .before in
-    sym (past (e7 .before .before) ∙ simp (usable e7, sym (finite (c .before)) ∙ not-false (c .before .all-finite .result) (c .if8 .left)))
+    sym (past (e7 .before .before)
+    ∙ simp (usable e7, sym (finite (c .before)) ∙ not-false (c .before .all-finite .result) (c .if8 .left)))
 
 pub refusal-spec : {M : Type 1} → statement M
 refusal-spec =

@@ -43,7 +43,12 @@ unfolding add
 returns c =
     let s = c .before .before .before in
     let cut-above =
-    simp (ceiling-known s, toZ-ofZ (s .fits .a), toZ-ofZ (s .fits .b), toZ-ofZ (fits s)) at (c .before .lower-of .ensures)
+    simp (
+      ceiling-known s,
+      toZ-ofZ (s .fits .a),
+      toZ-ofZ (s .fits .b),
+      toZ-ofZ (fits s),
+    ) at (c .before .lower-of .ensures)
     in
     told (c .higher-of .ok) (c .higher-of .ensures)
     ∙ simp (ceiling-known s, minus-known s, told (c .before .lower-of .ok) cut-above)

@@ -32,7 +32,8 @@ room-long : (c : tie.Else4) → leb (N (c .before .before)) (start (c .before .b
 room-long c = le-leb _ _ (rw (c .before .before .power-of-two .ensures) at (c .if4 .left))
 
 module _ (c : tie.After-mask-accepted) where
-  mask-values : c .mask-accepted .result ≡ maskAccepted (N (c .before .before .before)) (now (start (c .before .before .before) .args .mask))
+  mask-values : c .mask-accepted .result
+      ≡ maskAccepted (N (c .before .before .before)) (now (start (c .before .before .before) .args .mask))
   mask-values = rw (c .before .before .before .power-of-two .ensures) at (c .mask-accepted .ensures)
 
 module _ (c : tie.After-information-count) where
@@ -42,7 +43,9 @@ module _ (c : tie.After-information-count) where
   count : c .information-count .result ≡ informationCount (now (start length-known .args .mask)) (N length-known)
   count = rw (length-known .power-of-two .ensures) at (c .information-count .ensures)
 
-values : (c : tie.Else5) → maskAccepted (N (c .before .before .before .before)) (now (start (c .before .before .before .before) .args .mask)) ≡ true
+values : (c : tie.Else5)
+    → maskAccepted (N (c .before .before .before .before)) (now (start (c .before .before .before .before) .args .mask))
+    ≡ true
 values c = sym (mask-values (c .before)) ∙ not-false _ (c .if5 .left)
 
 returns : tie.Need-returns
@@ -60,7 +63,11 @@ returns-3 c = simp (size (c .before .before), lt-leb _ _ (rw (c .before .power-o
 returns-4 : tie.Need-returns-4
 returns-4 c =
     let e3 = c .before in
-    simp (size (e3 .before .before), mask-long e3, lt-leb _ _ (rw (e3 .before .power-of-two .ensures) at (c .if4 .taken)))
+    simp (
+      size (e3 .before .before),
+      mask-long e3,
+      lt-leb _ _ (rw (e3 .before .power-of-two .ensures) at (c .if4 .taken)),
+    )
 
 mask-accepted-requires : tie.Need-mask-accepted-requires
 mask-accepted-requires c κs = omega arith
@@ -69,7 +76,12 @@ returns-5 : tie.Need-returns-5
 returns-5 c =
     let e4 = c .before .before in
     let e3 = e4 .before in
-    simp (size (e3 .before .before), mask-long e3, room-long e4, sym (mask-values (c .before)) ∙ not-true _ (c .if5 .taken))
+    simp (
+      size (e3 .before .before),
+      mask-long e3,
+      room-long e4,
+      sym (mask-values (c .before)) ∙ not-true _ (c .if5 .taken),
+    )
 
 information-count-requires : tie.Need-information-count-requires
 information-count-requires c κs = omega arith
@@ -86,7 +98,13 @@ returns-7 c =
     let e5 = c .before .before in
     let e4 = e5 .before .before in
     let e3 = e4 .before in
-    simp (size (e3 .before .before), mask-long e3, room-long e4, values e5, rw (count (c .before)) at (le-leb 1 (c .before .information-count .result) (omega arith)))
+    simp (
+      size (e3 .before .before),
+      mask-long e3,
+      room-long e4,
+      values e5,
+      rw (count (c .before)) at (le-leb 1 (c .before .information-count .result) (omega arith)),
+    )
 
 pub code-refusal-spec : {M : Type 1} → statement M
 code-refusal-spec =

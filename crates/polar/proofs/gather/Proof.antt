@@ -8,7 +8,14 @@ use mathlib.Core.Bool.{Bool, true, false}
 use lib.ListN.{length, getD}
 use Rattle.polar.specs.Mask.{isInformation}
 use Rattle.polar.specs.Code.{informationCount}
-use Rattle.polar.proofs.Loops.{Gathered, gathered-none, gathered-length, gathered-information, gathered-frozen, count-lt}
+use Rattle.polar.proofs.Loops.{
+  Gathered,
+  gathered-none,
+  gathered-length,
+  gathered-information,
+  gathered-frozen,
+  count-lt,
+}
 use Rattle.polar.proofs.gather.Statement.{statement}
 use Rattle.polar.proofs.gather.Tie as tie
 
@@ -33,7 +40,11 @@ module _ (c : tie.In-loop Inv-loop μ-loop) where
 
   in-count : isInformation kind ≡ true → at .loop .count < informationCount (start .args .mask .now) (start .args .n)
   in-count z =
-      omega (arith, at .loop .inv .1 .counted, count-lt (start .args .mask .now) (at .loop .i) (start .args .n) z (omega arith))
+      omega (
+        arith,
+        at .loop .inv .1 .counted,
+        count-lt (start .args .mask .now) (at .loop .i) (start .args .n) z (omega arith),
+      )
 
 -- what the code's test of the mask's byte says
 module _ (c : tie.After-is-information Inv-loop μ-loop) where

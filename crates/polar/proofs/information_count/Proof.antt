@@ -44,11 +44,13 @@ loop-again c =
       omega arith,
       ⊎-elim
           (λ w. w .1 ∙ rw h (count-information mask (at .loop .i) (sym (call .is-information .ensures) ∙ w .0 .taken)))
-          (λ w. w .1 ∙ h ∙ count-frozen mask (at .loop .i) (sym (call .is-information .ensures) ∙ w .0 .left)) (c .if1 .came),
+          (λ w. w .1 ∙ h ∙ count-frozen mask (at .loop .i) (sym (call .is-information .ensures) ∙ w .0 .left))
+          (c .if1 .came),
     )
 
 returns : tie.Need-returns Inv-loop μ-loop
-returns c = let e : c .before .loop .i ≡ c .before .before .before .args .n = omega arith in rw e at (c .before .loop .inv .1)
+returns c =
+    let e : c .before .loop .i ≡ c .before .before .before .args .n = omega arith in rw e at (c .before .loop .inv .1)
 
 pub information-count-spec : {M : Type 1} → statement M
 information-count-spec =

@@ -34,7 +34,9 @@ loop-again c =
     (omega arith, rw (c .larger .ensures) (largest-next (at .loop .inv .1)))
 
 returns : tie.Need-returns Inv-loop μ-loop
-returns c = let e : c .before .loop .i ≡ c .before .before .before .args .n = omega arith in rw e at (c .before .loop .inv .1 .is)
+returns c =
+    let e : c .before .loop .i ≡ c .before .before .before .args .n = omega arith in
+    rw e at (c .before .loop .inv .1 .is)
 
 pub largest-spec : {M : Type 1} → statement M
 largest-spec =

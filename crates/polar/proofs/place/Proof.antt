@@ -36,7 +36,11 @@ module _ (c : tie.In-loop Inv-loop μ-loop) where
   module _ (z : isInformation kind ≡ true) where
     in-message : at .loop .used < informationCount (start .args .mask .now) (start .args .n)
     in-message =
-        omega (arith, at .loop .inv .1 .count, count-lt (start .args .mask .now) (at .loop .i) (start .args .n) z (omega arith))
+        omega (
+          arith,
+          at .loop .inv .1 .count,
+          count-lt (start .args .mask .now) (at .loop .i) (start .args .n) z (omega arith),
+        )
 
     is-bit : getD (start .args .message .now) (at .loop .used) 0 ≤ 1
     is-bit =

@@ -14,10 +14,14 @@ use Rattle.sweeps.proofs.lower_message.Tie as tie
 
 -- f of the upper position's two messages
 part-is : (c : tie.After-min-sum) → let a = c .before .before .before .args in
-    toZ w16 (ofZ w16 (c .min-sum .result)) ≡ f (a .rule) (messageAt (a .work .now) (a .x + a .p)) (messageAt (a .work .now) (a .y + a .p))
+    toZ w16 (ofZ w16 (c .min-sum .result))
+    ≡ f (a .rule) (messageAt (a .work .now) (a .x + a .p)) (messageAt (a .work .now) (a .y + a .p))
 part-is c =
     told (c .min-sum .ok) (c .min-sum .ensures)
-    ∙ simp (told (c .before .before .get .ok) (c .before .before .get .ensures), told (c .before .get2 .ok) (c .before .get2 .ensures))
+    ∙ simp (
+      told (c .before .before .get .ok) (c .before .before .get .ensures),
+      told (c .before .get2 .ok) (c .before .get2 .ensures),
+    )
 
 get-requires : tie.Need-get-requires
 get-requires c κs = search needs

@@ -17,7 +17,8 @@ use Rattle.sweeps.proofs.set_prior.Statement.{statement}
 use Rattle.sweeps.proofs.set_prior.Tie as tie
 
 abbrev Inv-loop : tie.InvT-loop
-Inv-loop m ceiling mask work₀ n at top i₀ work i = (n ≡ 2 ^ m) × (i ≤ n) × RowPart m (m + 1) i (prior ceiling mask) work₀ work
+Inv-loop m ceiling mask work₀ n at top i₀ work i =
+    (n ≡ 2 ^ m) × (i ≤ n) × RowPart m (m + 1) i (prior ceiling mask) work₀ work
 
 abbrev μ-loop : tie.MeasureT-loop
 μ-loop m ceiling mask work₀ n at top i₀ work i = n - i
@@ -41,7 +42,11 @@ add-at c = omega arith
 mul-at : tie.Need-mul-at Inv-loop μ-loop
 mul-at c =
     let s = c .before .before in
-    omega (arith, place (s .args .m) (s .args .m + 1) 0 _ _ (c .power-of-two .ensures) (omega arith) (pow-pos (s .args .m)) (s .pre .3))
+    omega (
+      arith,
+      place (s .args .m) (s .args .m + 1) 0 _ _ (c .power-of-two .ensures) (omega arith) (pow-pos (s .args .m))
+          (s .pre .3),
+    )
 
 cast-top : tie.Need-cast-top Inv-loop μ-loop
 cast-top c = omega arith
@@ -65,7 +70,8 @@ mul-t16 : tie.Need-mul-t16 Inv-loop μ-loop
 mul-t16 c = omega (arith, in-work (c .before .before .before))
 
 slice-set-from-work : tie.Need-slice-set-from-work Inv-loop μ-loop
-slice-set-from-work c = omega (arith, in-work (c .before .before .before), row-length (c .before .before .before .before .loop .inv .2))
+slice-set-from-work c =
+    omega (arith, in-work (c .before .before .before), row-length (c .before .before .before .before .loop .inv .2))
 
 add-i : tie.Need-add-i Inv-loop μ-loop
 add-i c = omega arith
@@ -80,11 +86,15 @@ loop-again c =
     let s = start here in
     let i = loop .loop .i in
     let picked = rw (c .before .is-information .ensures) at (c .pick .ensures) in
-    let new = told (c .pick .ok) (picked ∙ prior-is (s .args .ceiling) (getD (now (s .args .mask)) i 0) (s .pre .1)) in (
+    let kind = getD (now (s .args .mask)) i 0 in
+    let new = told (c .pick .ok) (picked ∙ prior-is (s .args .ceiling) kind (s .pre .1)) in (
       loop .loop .inv .0,
       omega arith,
-      subst (λ (n : ℕ). RowPart (s .args .m) (s .args .m + 1) (i + 1) (prior (s .args .ceiling) (now (s .args .mask))) (now (s .args .work))
-          (set (loop .loop .work) ((s .args .m + 1) * n + i) (toZ w16 (ofZ w16 (c .pick .result))))) (sym (loop .loop .inv .0))
+      subst
+          (λ (n : ℕ). RowPart (s .args .m) (s .args .m + 1) (i + 1) (prior (s .args .ceiling) (now (s .args .mask)))
+          (now (s .args .work))
+          (set (loop .loop .work) ((s .args .m + 1) * n + i) (toZ w16 (ofZ w16 (c .pick .result)))))
+          (sym (loop .loop .inv .0))
           (row-next (loop .loop .inv .2) (s .pre .3) (omega arith) (omega arith) new),
     )
 

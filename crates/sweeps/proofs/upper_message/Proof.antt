@@ -17,7 +17,10 @@ sum-is : (c : tie.After-add-cut) → let a = c .before .before .before .args in
     ≡ add (a .rule) (messageAt (a .work .now) (a .x + (a .p + a .d))) (messageAt (a .work .now) (a .y + (a .p + a .d)))
 sum-is c =
     told (c .add-cut .ok) (c .add-cut .ensures)
-    ∙ simp (told (c .before .before .get .ok) (c .before .before .get .ensures), told (c .before .get2 .ok) (c .before .get2 .ensures))
+    ∙ simp (
+      told (c .before .before .get .ok) (c .before .before .get .ensures),
+      told (c .before .get2 .ok) (c .before .get2 .ensures),
+    )
 
 add-get : tie.Need-add-get
 add-get c = search needs
