@@ -5,3 +5,8 @@ pub mod NumberLaws
 pub mod Signs
 pub mod SignLaws
 pub mod WrittenLaws
+pub mod Bits
+pub mod BitLaws
+pub mod Every
+pub mod EveryLaws
+pub mod Bounds

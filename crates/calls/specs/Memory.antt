@@ -1,5 +1,5 @@
--- What lent memory holds after a call: the answer in its stated places, its old contents everywhere else, and after a refusal its old
--- contents throughout. Definitions only.
+-- What lent memory holds after a call: the answer in its stated places, its old contents everywhere else, and after a
+-- refusal its old contents throughout. Definitions only.
 use Prim.Native.Nat.{ℕ, zero, suc}
 use mathlib.Core.List.{List, [], _∷_}
 
@@ -16,7 +16,7 @@ module _ {A : Type 0} where
   overwriteFrom (suc a) n g [] = []
   overwriteFrom (suc a) n g (x ∷ old) = x ∷ overwriteFrom a n g old
 
-  -- by the number of the call's answer: what an accepted call leaves, or what was there before
+  -- what a call leaves, by the number of its answer: the new where it is accepted, the old where it is refused
   abbrev pub unlessRefused : ℕ → A → A → A
   unlessRefused zero new old = new
   unlessRefused (suc number) new old = old

@@ -24,7 +24,7 @@ use Rattle.calls.specs.declared.Refusal.the-variants.{
   UnusableTally,
 }
 use Rattle.calls.specs.Memory.{unlessRefused}
-use Rattle.calls.specs.Numbers.{refusalNumber, check, andThen, between}
+use Rattle.calls.specs.Numbers.{refusalNumber, check, firstRefusal, between}
 
 -- no refusal's number is 0, and none has more than two digits
 refusal-number : (r : Refusal) {A : Type 0} → ((n : ℕ) → refusalNumber r ≡ suc n → n < 99 → A) → A
@@ -47,7 +47,7 @@ refusal-number UnusableTally f = f 14 refl (lit< tt)
 pub refusal-digits : (r : Refusal) → refusalNumber r ≤ 99
 refusal-digits r = refusal-number r (λ n e h. omega arith)
 
-pub refused-first : (r : Refusal) (next : ℕ) → andThen (refusalNumber r) next ≡ refusalNumber r
+pub refused-first : (r : Refusal) (next : ℕ) → firstRefusal (refusalNumber r) next ≡ refusalNumber r
 refused-first r next = refusal-number r (λ n e h. rw e)
 
 pub refused-keeps : {A : Type 0} (r : Refusal) (new old : A) → unlessRefused (refusalNumber r) new old ≡ old
@@ -57,9 +57,9 @@ pub check-passed : (test : Bool) (number next : ℕ) → check test (suc number)
 check-passed true number next h = (refl, h)
 check-passed false number next h = absurd (omega arith)
 
-pub both-passed : (first next : ℕ) → andThen first next ≡ 0 → (first ≡ 0) × (next ≡ 0)
-both-passed zero next h = (refl, h)
-both-passed (suc number) next h = absurd (omega arith)
+pub first-refusal-passed : (first next : ℕ) → firstRefusal first next ≡ 0 → (first ≡ 0) × (next ≡ 0)
+first-refusal-passed zero next h = (refl, h)
+first-refusal-passed (suc number) next h = absurd (omega arith)
 
 pub and-passed : (a b : Bool) → a && b ≡ true → (a ≡ true) × (b ≡ true)
 and-passed true true h = (refl, refl)

@@ -1,4 +1,5 @@
--- Document 01, "Numbers by who causes them": the number of each refusal, and which of several is returned. Definitions only.
+-- Document 01, "Numbers by who causes them": the number of each refusal, and which of several is returned. Definitions
+-- only.
 use Prim.Native.Nat.{ℕ, zero, suc}
 use mathlib.Core.Bool.{Bool, true, false, _&&_}
 use lib.Dec.{leb}
@@ -45,15 +46,16 @@ abbrev pub numberOf : Answer → ℕ
 numberOf Done = 0
 numberOf (Refused r) = refusalNumber r
 
--- a test that refuses with a number where it fails; a chain of them gives the number of the first that fails, and 0 where all pass
+-- a test that refuses with a number where it fails; a chain of them gives the number of the first that fails, and 0
+-- where all pass
 abbrev pub check : Bool → ℕ → ℕ → ℕ
 check true number next = next
 check false number next = number
 
 -- two groups of tests: the number of the first, or, where it passes, that of the second
-abbrev pub andThen : ℕ → ℕ → ℕ
-andThen zero next = next
-andThen (suc number) next = suc number
+abbrev pub firstRefusal : ℕ → ℕ → ℕ
+firstRefusal zero next = next
+firstRefusal (suc number) next = suc number
 
 -- from low to high, both included
 abbrev pub between : ℕ → ℕ → ℕ → Bool

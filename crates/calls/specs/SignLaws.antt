@@ -1,8 +1,10 @@
--- Laws of the sign: a number's size stays when its sign turns, and a sign turned twice is as it was.
+-- Laws of the sign: a number's size stays when its sign turns, a sign turned twice is as it was, and two turns are one
+-- by the exclusive-or of their bits.
 use Prim.Native.Nat.{ℕ, zero, suc}
-use mathlib.Core.Path.{_≡_, refl}
+use mathlib.Core.Path.{_≡_, refl, sym}
 use mathlib.Core.Bool.{Bool, true, false}
 use lib.IntN.{ℤ, pos, negsuc, negℤ, negℤ-negℤ, natAbs}
+use Rattle.calls.specs.Bits.{xor}
 use Rattle.calls.specs.Signs.{isNegative, flipped}
 
 pub size-neg : (z : ℤ) → natAbs (negℤ z) ≡ natAbs z
@@ -21,3 +23,9 @@ flipped-zero true = refl
 pub flipped-twice : (b : Bool) (z : ℤ) → flipped b (flipped b z) ≡ z
 flipped-twice false z = refl
 flipped-twice true z = negℤ-negℤ z
+
+-- the product of two signs, one turned after the other
+pub flipped-xor : (s t : Bool) (z : ℤ) → flipped (xor s t) z ≡ flipped s (flipped t z)
+flipped-xor false t z = refl
+flipped-xor true false z = refl
+flipped-xor true true z = sym (negℤ-negℤ z)

@@ -1,7 +1,17 @@
-// What every call of the library shares: its answer, the number that document 01 gives a refusal, and (in specs/) what
-// lent memory holds after the call. It sees no other crate. It promises that each answer has one number, 0 or a refusal's.
+// What every call of the library shares: its answer, the number that document 01 gives a refusal, the ranges, and (in
+// specs/) bits, signs, tests of many places, and what lent memory holds after the call. It sees no other crate. It
+// promises that each answer has one number, 0 or a refusal's. Its small functions are offered to the crates above.
 ghost use mathlib.Core.Path.{_≡_};
+ghost use mathlib.Core.Bool.{_&&_};
+ghost use Prim.Native.Nat.{_≤_, min};
+ghost use lib.IntN.{natAbs};
+ghost use Rattle.calls.specs.Bounds.{largestCeiling};
 ghost use Rattle.calls.specs.Numbers.{numberOf};
+
+// The largest m and the largest ceiling.
+pub const LARGEST_M: u32 = 10;
+
+pub const LARGEST_CEILING: u32 = 2047;
 
 // Why a call is refused, in the order of the numbers.
 pub enum Refusal {
@@ -51,5 +61,30 @@ pub fn number(answer: Answer) -> u32
             Refusal::MalformedText => 14,
             Refusal::UnusableTally => 15,
         },
+    }
+}
+
+// Both, without a branch.
+pub fn both(a: bool, b: bool) -> bool
+    ensures { λ r. ⌜ r ≡ a && b ⌝ }
+{
+    a & b
+}
+
+pub fn smaller(a: u16, b: u16) -> u16
+    ensures { λ r. ⌜ r ≡ min a b ⌝ }
+{
+    if a < b { a } else { b }
+}
+
+// The size of a message.
+pub fn size(value: i16) -> u16
+    requires { ⌜ natAbs value ≤ largestCeiling ⌝ }
+    ensures { λ r. ⌜ r ≡ natAbs value ⌝ }
+{
+    if value < 0 {
+        -value as u16
+    } else {
+        value as u16
     }
 }

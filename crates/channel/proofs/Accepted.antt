@@ -10,34 +10,36 @@ use lib.ListN.{length}
 use lib.Pow.{shl-exact}
 use lib.Ieee.{Float}
 use borrow.Author.Tests.{leb-true}
+use Rattle.calls.specs.Bounds.{largestM, largestCeiling}
 use Rattle.calls.specs.Numbers.{between}
 use Rattle.calls.specs.NumberLaws.{check-passed, and-passed, between-passed}
 use Rattle.channel.specs.Front.{isUsable, allFinite, frontNumber}
 use Rattle.channel.specs.declared.Channel.{Channel}
 
 -- 1 << m
-pub block-width : (m : ℕ) → m ≤ 10 → 1 * 2 ^ m % 2 ^ 64 ≡ 2 ^ m
+pub block-width : (m : ℕ) → m ≤ largestM → 1 * 2 ^ m % 2 ^ 64 ≡ 2 ^ m
 block-width m h = shl-exact 1 m 64 (lit< tt) (omega arith) ∙ one-mul (2 ^ m)
 
 pub record Accepted (m C : ℕ) (channel : Channel) (samples : List Float) (room : ℕ) : Type 0 where
-  pub block : (1 ≤ m) × (m ≤ 10)
-  pub ceiling : (1 ≤ C) × (C ≤ 2047)
+  pub block : (1 ≤ m) × (m ≤ largestM)
+  pub ceiling : (1 ≤ C) × (C ≤ largestCeiling)
   pub slices : (2 ^ m ≤ length samples) × (2 ^ m ≤ room)
   pub usable : T (isUsable channel)
   pub finite : T (allFinite (2 ^ m) samples)
 
-pub accepted : (m C : ℕ) (channel : Channel) (samples : List Float) (room : ℕ) → frontNumber m C channel samples room ≡ 0
+pub accepted : (m C : ℕ) (channel : Channel) (samples : List Float) (room : ℕ)
+    → frontNumber m C channel samples room ≡ 0
     → Accepted m C channel samples room
 accepted m C channel samples room e =
-    let one = check-passed (between 1 10 m) 0 _ e in
-    let two = check-passed (between 1 2047 C) 1 _ (one .1) in
+    let one = check-passed (between 1 largestM m) 0 _ e in
+    let two = check-passed (between 1 largestCeiling C) 1 _ (one .1) in
     let seven = check-passed (leb (2 ^ m) (length samples) && leb (2 ^ m) room) 6 _ (two .1) in
     let eleven = check-passed (isUsable channel) 10 _ (seven .1) in
     let twelve = check-passed (allFinite (2 ^ m) samples) 11 0 (eleven .1) in
     let long = and-passed (leb (2 ^ m) (length samples)) (leb (2 ^ m) room) (seven .0) in
     record {
-      block = between-passed 1 10 m (one .0);
-      ceiling = between-passed 1 2047 C (two .0);
+      block = between-passed 1 largestM m (one .0);
+      ceiling = between-passed 1 largestCeiling C (two .0);
       slices = (leb-true (2 ^ m) (length samples) (long .0), leb-true (2 ^ m) room (long .1));
       usable = subst T (sym (eleven .0)) tt;
       finite = subst T (sym (twelve .0)) tt;

@@ -10,7 +10,7 @@ use lib.Ieee.{Float, nan, inf, fin, up, down, lt}
 use lib.Ieee.Fits.{up-pos}
 use borrow.Author.Tests.{lt-ltb, le-ltb}
 use Rattle.channel.specs.Front.{isFinite, isAboveZero}
-use Rattle.channel.specs.Working.{bySign}
+use Rattle.channel.specs.Private.{bySign}
 
 pub finite-is : (x : Float) → isFinite x ≡ cond (lt (inf true) x) (lt x (inf false)) false
 unfolding lt isFinite
@@ -25,14 +25,16 @@ unfolding lt
 above true m e = refl
 above false zero e = le-ltb (0 * 1 * down e) (zero * up e * 1) (omega arith)
 above false (suc m) e =
-    lt-ltb (0 * 1 * down e) (suc m * up e * 1) (omega (arith, mul-pos (zero-lt-suc m) (up-pos e))) ∙ sym (ap not (eqb·suc-zero m))
+    lt-ltb (0 * 1 * down e) (suc m * up e * 1) (omega (arith, mul-pos (zero-lt-suc m) (up-pos e)))
+    ∙ sym (ap not (eqb·suc-zero m))
 
 under : (s : Bool) (m : ℕ) (e : ℤ) → lt (fin s m e) (fin false 0 (pos 0)) ≡ (s && not (eqb m 0))
 unfolding lt
 under false m e = le-ltb (m * up e * 1) (0 * 1 * down e) (omega arith)
 under true zero e = le-ltb 0 (zero * up e * 1 + 0 * 1 * down e) (omega arith)
 under true (suc m) e =
-    lt-ltb 0 (suc m * up e * 1 + 0 * 1 * down e) (omega (arith, mul-pos (zero-lt-suc m) (up-pos e))) ∙ sym (ap not (eqb·suc-zero m))
+    lt-ltb 0 (suc m * up e * 1 + 0 * 1 * down e) (omega (arith, mul-pos (zero-lt-suc m) (up-pos e)))
+    ∙ sym (ap not (eqb·suc-zero m))
 
 same-test : (b : Bool) → b ≡ cond b true false
 same-test true = refl
@@ -43,7 +45,8 @@ unfolding lt isAboveZero
 above-zero-is nan = refl
 above-zero-is (inf true) = refl
 above-zero-is (inf false) = refl
-above-zero-is (fin s m e) = same-test (not s && not (eqb m 0)) ∙ ap (λ (b : Bool). cond b true false) (sym (above s m e))
+above-zero-is (fin s m e) =
+    same-test (not s && not (eqb m 0)) ∙ ap (λ (b : Bool). cond b true false) (sym (above s m e))
 
 pub by-sign-is : (x : Float) (z : ℤ)
     → bySign x z ≡ cond (lt x (fin false 0 (pos 0))) (negℤ z) (cond (lt (fin false 0 (pos 0)) x) z (pos 0))

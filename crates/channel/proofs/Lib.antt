@@ -2,5 +2,4 @@ pub mod Comparisons
 pub mod Fields
 pub mod Samples
 pub mod Signs
-pub mod Narrow
 pub mod Accepted

@@ -3,23 +3,21 @@ use Prim.Native.Nat.{ℕ, zero, suc, _+_, _*_, _^_, _<_}
 use mathlib.Core.Path.{_≡_, refl, subst}
 use mathlib.Core.Bool.{Bool, true, false, not, cond}
 use mathlib.Core.List.{List}
-use mathlib.Core.Logic.{⊎-elim}
-use native.Mathlib.Nat.{le-of-suc-le-suc, not-suc-le-zero, eq-or-lt-of-le}
 use lib.Dec.{T, ltb}
 use lib.ListN.{getD}
 use lib.Ieee.{Float, nan, inf, fin, Format, binary32, prec, emax, low, up, down, unlike, odd, units, round, mul, isNan}
-use lib.Ieee.Fits.{and-l, and-r}
+use denote.Floats.{passes, is-true}
+use Rattle.calls.specs.EveryLaws.{every-at}
 use Rattle.channel.specs.Front.{isFinite, isAboveZero, allFinite}
 
-pub sample-finite : (n i : ℕ) (samples : List Float) → i < n → T (allFinite n samples) → T (isFinite (getD samples i nan))
-sample-finite zero i samples h t = absurd (not-suc-le-zero h)
-sample-finite (suc n) i samples h t =
-    ⊎-elim
-    (λ e. rw e (and-r (allFinite n samples) (isFinite (getD samples n nan)) t))
-    (λ l. sample-finite n i samples l (and-l (allFinite n samples) (isFinite (getD samples n nan)) t))
-    (eq-or-lt-of-le (le-of-suc-le-suc h))
+pub sample-finite : (n i : ℕ) (samples : List Float) → i < n → T (allFinite n samples)
+    → T (isFinite (getD samples i nan))
+sample-finite n i samples h t =
+    passes (isFinite (getD samples i nan))
+    (every-at n i (λ j. isFinite (getD samples j nan)) (is-true (allFinite n samples) t) h)
 
-pub one-not-finite : (n i : ℕ) (samples : List Float) → i < n → isFinite (getD samples i nan) ≡ false → false ≡ allFinite n samples
+pub one-not-finite : (n i : ℕ) (samples : List Float) → i < n → isFinite (getD samples i nan) ≡ false
+    → false ≡ allFinite n samples
 one-not-finite n i samples h e = by-test (allFinite n samples) (sample-finite n i samples h)
   where
     by-test : (b : Bool) → (T b → T (isFinite (getD samples i nan))) → false ≡ b
@@ -46,13 +44,15 @@ round-number : (f : Format) (s : Bool) (n d : ℕ) → T (not (isNan (round f s 
 unfolding round
 round-number f s n d = units-number f s _ _
 
-pub product-number : (x factor : Float) → T (isFinite x) → T (isAboveZero factor) → T (not (isNan (mul binary32 x factor)))
+pub product-number : (x factor : Float) → T (isFinite x) → T (isAboveZero factor)
+    → T (not (isNan (mul binary32 x factor)))
 unfolding mul isFinite isAboveZero
 product-number nan factor h k = absurd h
 product-number (inf s) factor h k = absurd h
 product-number (fin s m e) nan h k = absurd k
 product-number (fin s m e) (inf t) h k = absurd k
-product-number (fin s m e) (fin t n d) h k = round-number binary32 (unlike s t) (m * up e * (n * up d)) (down e * down d)
+product-number (fin s m e) (fin t n d) h k =
+    round-number binary32 (unlike s t) (m * up e * (n * up d)) (down e * down d)
 
 pub above-zero-number : (x : Float) → T (isAboveZero x) → T (not (isNan x))
 unfolding isAboveZero isNan

@@ -1,12 +1,12 @@
--- The front's definitions at chosen cases, by computing: document 01's P10, halves, the ceiling, zeros, the ends of the format, and
--- each refusal. Every group is a list of results beside the list of what is expected.
+-- The front's definitions at chosen cases, by computing: document 01's P10, halves, the ceiling, zeros, the ends of the
+-- format, and each refusal. Every group is a list of results beside the list of what is expected.
 use Prim.Native.Nat.{ℕ}
 use mathlib.Core.Path.{_≡_, refl}
 use mathlib.Core.Bool.{true, false}
 use mathlib.Core.List.{List, [], _∷_, map}
 use lib.IntN.{ℤ, pos, negsuc}
 use lib.Ieee.{Float, nan, inf, binary32, ofBits, mul, neg}
-use Rattle.channel.specs.Front.{withSign, quantised, llrOf, isFinite, isAboveZero, frontNumber}
+use Rattle.channel.specs.Front.{withSampleSign, quantised, llrOf, isFinite, isAboveZero, frontNumber}
 use Rattle.channel.specs.declared.Channel.{Channel}
 use Rattle.channel.specs.declared.Channel.the-variants.{Gaussian, Flipping, Erasing}
 
@@ -54,7 +54,7 @@ hundred = Flipping (float 0x42c8_0000)
 
 -- ---- P10: factor 1.5, samples 1 and -1; weight 0.25
 p10 : llrs 31 stronger ones ∷ llrs 31 quarter ones ∷ [] ≡ (pos 2 ∷ negsuc 1 ∷ []) ∷ (pos 0 ∷ pos 0 ∷ []) ∷ []
-unfolding ofBits mul neg withSign quantised
+unfolding ofBits mul neg withSampleSign quantised
 p10 = refl
 
 -- ---- halves go away from zero: 0.5, -0.5, 1.5, 2.5, -2.5; the float just below 0.5 goes to 0
@@ -70,12 +70,14 @@ unfolding ofBits mul quantised
 lowest-ceiling = refl
 
 -- ---- the highest ceiling, 2047, with 2046.25, 2046.5, 2046.75, -2046.75, 2047 and 2048
-highest-ceiling : llrs 2047 plain (0x44ff_c800 ∷ 0x44ff_d000 ∷ 0x44ff_d800 ∷ 0xc4ff_d800 ∷ 0x44ff_e000 ∷ 0x4500_0000 ∷ [])
+highest-ceiling : llrs 2047 plain
+    (0x44ff_c800 ∷ 0x44ff_d000 ∷ 0x44ff_d800 ∷ 0xc4ff_d800 ∷ 0x44ff_e000 ∷ 0x4500_0000 ∷ [])
     ≡ pos 2046 ∷ pos 2047 ∷ pos 2047 ∷ negsuc 2046 ∷ pos 2047 ∷ pos 2047 ∷ []
 unfolding ofBits mul quantised
 highest-ceiling = refl
 
--- ---- the smallest samples with the factor 1, the largest and the smallest; a product beyond the format is beyond the ceiling
+-- ---- the smallest samples with the factor 1, the largest and the smallest; a product beyond the format is beyond the
+-- ceiling
 ends : llrs 31 plain smallest ∷ llrs 31 strongest smallest ∷ llrs 31 weakest smallest ∷ llrs 31 strongest largest ∷ []
     ≡ (pos 0 ∷ pos 0 ∷ []) ∷ (pos 0 ∷ pos 0 ∷ []) ∷ (pos 0 ∷ pos 0 ∷ []) ∷ (pos 31 ∷ negsuc 30 ∷ []) ∷ []
 unfolding ofBits mul quantised
@@ -84,7 +86,7 @@ ends = refl
 -- ---- either zero gives 0, of each kind
 zero-samples : llrs 31 stronger zeros ∷ llrs 31 between-two zeros ∷ llrs 31 Erasing zeros ∷ []
     ≡ (pos 0 ∷ pos 0 ∷ []) ∷ (pos 0 ∷ pos 0 ∷ []) ∷ (pos 0 ∷ pos 0 ∷ []) ∷ []
-unfolding ofBits mul withSign quantised
+unfolding ofBits mul withSampleSign quantised
 zero-samples = refl
 
 -- ---- of the flipping and the erasing kind the sign alone counts: weight 2.5, a weight above the ceiling, and erasing
@@ -100,7 +102,7 @@ signs : llrs 31 between-two ones
     ∷ (pos 31 ∷ negsuc 30 ∷ [])
     ∷ (pos 2047 ∷ negsuc 2046 ∷ [])
     ∷ []
-unfolding ofBits neg withSign quantised
+unfolding ofBits neg withSampleSign quantised
 signs = refl
 
 -- ---- refusals: m = 1 unless said otherwise, so two samples and room for two LLRs are needed
@@ -112,7 +114,8 @@ abbrev pair : List Float
 pair = one ∷ one ∷ []
 
 -- none: just enough, more than enough, and a NaN behind the two samples
-accepted : frontNumber 1 31 plain pair 2 ∷ frontNumber 1 2047 Erasing (one ∷ pair) 9 ∷ frontNumber 1 1 plain (one ∷ one ∷ nan ∷ []) 2 ∷ []
+accepted : frontNumber 1 31 plain pair 2 ∷ frontNumber 1 2047 Erasing (one ∷ pair) 9
+    ∷ frontNumber 1 1 plain (one ∷ one ∷ nan ∷ []) 2 ∷ []
     ≡ 0 ∷ 0 ∷ 0 ∷ []
 unfolding ofBits isFinite isAboveZero
 accepted = refl
@@ -137,7 +140,8 @@ short-slices = refl
 abbrev factors : List Float
 factors = float 0x0000_0000 ∷ float 0x8000_0000 ∷ float 0xbf80_0000 ∷ inf false ∷ nan ∷ float 0x0000_0001 ∷ []
 
-unusable : map (λ factor. frontNumber 1 31 (Gaussian factor) pair 2) factors ∷ map (λ weight. frontNumber 1 31 (Flipping weight) pair 2) factors ∷ []
+unusable : map (λ factor. frontNumber 1 31 (Gaussian factor) pair 2) factors
+    ∷ map (λ weight. frontNumber 1 31 (Flipping weight) pair 2) factors ∷ []
     ≡ (11 ∷ 11 ∷ 11 ∷ 11 ∷ 11 ∷ 0 ∷ []) ∷ (11 ∷ 11 ∷ 11 ∷ 11 ∷ 11 ∷ 0 ∷ []) ∷ []
 unfolding ofBits isFinite isAboveZero
 unusable = refl

@@ -1,31 +1,35 @@
--- Document 01, "From samples to LLRs", and the front's lines of "Numbers by who causes them". Definitions only.
--- A float is its value, as `lib.Ieee` has it: `nan`, `inf s`, or `fin s m e`, which is m * 2 ^ e, negative where s is true.
+-- Document 01, "From samples to LLRs", and the front's lines of "Numbers by who causes them". Definitions only. A float
+-- is its value, as `lib.Ieee` has it: `nan`, `inf s`, or `fin s m e`, which is m * 2 ^ e, negative where s is true.
 use Prim.Native.Nat.{ℕ, zero, suc, _+_, _*_, _/_, _^_}
 use mathlib.Core.Bool.{Bool, true, false, not, _&&_, cond}
 use mathlib.Core.List.{List}
 use lib.Dec.{leb, eqb}
-use lib.IntN.{ℤ, pos, negℤ}
+use lib.IntN.{ℤ, pos}
 use lib.ListN.{length, getD}
 use lib.Ieee.{Float, nan, inf, fin, up, down, neg, mul, binary32}
+use Rattle.calls.specs.Bounds.{largestM, largestCeiling}
 use Rattle.calls.specs.Numbers.{check, between}
+use Rattle.calls.specs.Every.{every}
 use Rattle.calls.specs.Memory.{overwrite, unlessRefused}
+use Rattle.calls.specs.Signs.{flipped}
 use Rattle.channel.specs.declared.Channel.{Channel}
 use Rattle.channel.specs.declared.Channel.the-variants.{Gaussian, Flipping, Erasing}
 
 -- ---- the value of a sample, by the kind of channel
 
 -- a size with the sample's sign; a sample of either zero gives 0
-unfoldable pub withSign : Float → Float → Float
-withSign nan size = nan
-withSign (inf s) size = cond s (neg size) size
-withSign (fin s zero e) size = fin false 0 (pos 0)
-withSign (fin s (suc m) e) size = cond s (neg size) size
+unfoldable pub withSampleSign : Float → Float → Float
+withSampleSign nan size = nan
+withSampleSign (inf s) size = cond s (neg size) size
+withSampleSign (fin s zero e) size = fin false 0 (pos 0)
+withSampleSign (fin s (suc m) e) size = cond s (neg size) size
 
--- Gaussian: one 32-bit product, rounded once. Flipping: the weight with the sample's sign. Erasing: the ceiling, C * 2 ^ 0, with it
+-- Gaussian: one 32-bit product, rounded once. Flipping: the weight with the sample's sign. Erasing: the ceiling, C * 2
+-- ^ 0, with it
 abbrev pub valueOf : ℕ → Channel → Float → Float
 valueOf C (Gaussian factor) x = mul binary32 x factor
-valueOf C (Flipping weight) x = withSign x weight
-valueOf C Erasing x = withSign x (fin false C (pos 0))
+valueOf C (Flipping weight) x = withSampleSign x weight
+valueOf C Erasing x = withSampleSign x (fin false C (pos 0))
 
 -- ---- the whole number of a value
 
@@ -37,15 +41,12 @@ nearest n d = (2 * n + d) / (2 * d)
 abbrev pub roundedSize : ℕ → ℕ → ℕ → ℕ
 roundedSize C n d = cond (leb (C * d) n) C (nearest n d)
 
-abbrev pub signed : Bool → ℕ → ℤ
-signed false n = pos n
-signed true n = negℤ (pos n)
-
--- an infinity, the product too large for the format, counts as beyond the ceiling. (No value of an accepted call is a NaN.)
+-- an infinity, the product too large for the format, counts as beyond the ceiling. (No value of an accepted call is a
+-- NaN.)
 unfoldable pub quantised : ℕ → Float → ℤ
 quantised C nan = pos 0
-quantised C (inf s) = signed s C
-quantised C (fin s m e) = signed s (roundedSize C (m * up e) (down e))
+quantised C (inf s) = flipped s (pos C)
+quantised C (fin s m e) = flipped s (pos (roundedSize C (m * up e) (down e)))
 
 abbrev pub llrOf : ℕ → Channel → Float → ℤ
 llrOf C channel x = quantised C (valueOf C channel x)
@@ -71,13 +72,12 @@ isUsable Erasing = true
 
 -- the first n samples
 abbrev pub allFinite : ℕ → List Float → Bool
-allFinite zero samples = true
-allFinite (suc n) samples = allFinite n samples && isFinite (getD samples n nan)
+allFinite n samples = every n (λ i. isFinite (getD samples i nan))
 
 abbrev pub frontNumber : ℕ → ℕ → Channel → List Float → ℕ → ℕ
 frontNumber m C channel samples room =
-    check (between 1 10 m) 1
-    (check (between 1 2047 C) 2
+    check (between 1 largestM m) 1
+    (check (between 1 largestCeiling C) 2
     (check (leb (2 ^ m) (length samples) && leb (2 ^ m) room) 7
     (check (isUsable channel) 11
     (check (allFinite (2 ^ m) samples) 12 0))))

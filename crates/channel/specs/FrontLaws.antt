@@ -1,10 +1,21 @@
--- Laws of the front's definitions, each for every float and every channel: `nearest` is the nearest whole number; an LLR is no larger than
--- the ceiling and odd in its sample; samples negated at some places give the same number and the LLRs negated at those places.
+-- Laws of the front's definitions, each for every float and every channel: `nearest` is the nearest whole number; an
+-- LLR is no larger than the ceiling and odd in its sample; samples flipped at some places give the same number and the
+-- LLRs flipped at those places.
 use Prim.Native.Nat.{ℕ, zero, suc, _+_, _*_, _/_, _^_, _≤_, _<_, zero-le}
 use mathlib.Core.Path.{_≡_, refl, sym, ap, ap₂, _∙_}
 use mathlib.Core.Bool.{Bool, true, false, not, _&&_, cond}
 use mathlib.Core.List.{List, [], _∷_}
-use native.Mathlib.Nat.{le-refl, mul-pos, zero-lt-suc, not-suc-le-zero, mul-div-le, lt-mul-div-succ, le-of-suc-le-suc, div-lt-iff-lt-mul, le-div-iff-mul-le}
+use native.Mathlib.Nat.{
+  le-refl,
+  mul-pos,
+  zero-lt-suc,
+  not-suc-le-zero,
+  mul-div-le,
+  lt-mul-div-succ,
+  le-of-suc-le-suc,
+  div-lt-iff-lt-mul,
+  le-div-iff-mul-le,
+}
 use native.Mathlib.Numerals.{add-one}
 use native.Mathlib.Omega.{arith}
 use lib.Dec.{leb, ltb, eqb}
@@ -17,13 +28,14 @@ use lib.Ieee.Nearest.{div-same}
 use borrow.Author.Tests.{leb-true, leb-false, le-leb, lt-leb}
 use Rattle.calls.specs.Memory.{overwrite, unlessRefused}
 use Rattle.calls.specs.Signs.{flipped}
+use Rattle.calls.specs.SignLaws.{size-flipped, flipped-xor}
+use Rattle.calls.specs.EveryLaws.{every-same}
 use Rattle.calls.specs.MemoryLaws.{length-overwrite, overwrite-same}
 use Rattle.channel.specs.Front.{
-  withSign,
+  withSampleSign,
   valueOf,
   nearest,
   roundedSize,
-  signed,
   quantised,
   llrOf,
   isFinite,
@@ -31,7 +43,7 @@ use Rattle.channel.specs.Front.{
   frontNumber,
   frontLlrs,
 }
-use Rattle.channel.specs.Negated.{negatedIf, negated}
+use Rattle.channel.specs.FlippedSamples.{flippedSample, flippedSamples}
 use Rattle.channel.specs.declared.Channel.{Channel}
 use Rattle.channel.specs.declared.Channel.the-variants.{Gaussian, Flipping, Erasing}
 
@@ -39,8 +51,10 @@ use Rattle.channel.specs.declared.Channel.the-variants.{Gaussian, Flippi
 
 -- with N for `nearest n d`: N - 1/2 ≤ n / d < N + 1/2, so a half goes up
 pub nearest-is : (n d : ℕ) → 0 < d → (2 * d * nearest n d ≤ 2 * n + d) × (2 * n + d < 2 * d * suc (nearest n d))
-nearest-is n d h =
-    (mul-div-le (2 * n + d) (2 * d), rw add-one at (lt-mul-div-succ (2 * n + d) {b = 2 * d} (mul-pos (zero-lt-suc 1) h)))
+nearest-is n d h = (
+  mul-div-le (2 * n + d) (2 * d),
+  rw add-one at (lt-mul-div-succ (2 * n + d) {b = 2 * d} (mul-pos (zero-lt-suc 1) h)),
+)
 
 pub rounded-bound : (C n d : ℕ) → 0 < d → roundedSize C n d ≤ C
 rounded-bound C n d h = by-test (leb (C * d) n) refl
@@ -50,7 +64,8 @@ rounded-bound C n d h = by-test (leb (C * d) n) refl
 
     by-test : (b : Bool) → leb (C * d) n ≡ b → cond b C (nearest n d) ≤ C
     by-test true e = le-refl C
-    by-test false e = le-of-suc-le-suc (div-lt-iff-lt-mul {k = 2 * d} (mul-pos (zero-lt-suc 1) h) .1 (below (leb-false (C * d) n e)))
+    by-test false e =
+        le-of-suc-le-suc (div-lt-iff-lt-mul {k = 2 * d} (mul-pos (zero-lt-suc 1) h) .1 (below (leb-false (C * d) n e)))
 
 -- whether the size reaches the ceiling, and its whole number, depend only on the value of the fraction
 pub reaches : (C n d : ℕ) → 0 < d → leb (C * d) n ≡ leb C (n / d)
@@ -64,7 +79,8 @@ pub rounded-same : (C a b c d : ℕ) → 0 < b → 0 < d → a * d ≡ c * b →
 rounded-same C a b c d p q e =
     ap₂ (λ (t : Bool) (n : ℕ). cond t C n)
     (reaches C a b p ∙ ap (leb C) (div-same a b c d p q e) ∙ sym (reaches C c d q))
-    (div-same (2 * a + b) (2 * b) (2 * c + d) (2 * d) (mul-pos (zero-lt-suc 1) p) (mul-pos (zero-lt-suc 1) q) (omega arith))
+    (div-same (2 * a + b) (2 * b) (2 * c + d) (2 * d) (mul-pos (zero-lt-suc 1) p) (mul-pos (zero-lt-suc 1) q)
+    (omega arith))
 
 pub rounded-zero : (C : ℕ) → roundedSize C 0 1 ≡ 0
 rounded-zero zero = refl
@@ -72,16 +88,12 @@ rounded-zero (suc C) = simp (lt-leb (suc C * 1) 0 (omega arith))
 
 -- ---- no LLR is larger than the ceiling
 
-signed-bound : (s : Bool) (n C : ℕ) → n ≤ C → natAbs (signed s n) ≤ C
-signed-bound false n C h = h
-signed-bound true zero C h = zero-le
-signed-bound true (suc n) C h = h
-
 pub quantised-bound : (C : ℕ) (value : Float) → natAbs (quantised C value) ≤ C
 unfolding quantised
 quantised-bound C nan = zero-le
-quantised-bound C (inf s) = signed-bound s C C (le-refl C)
-quantised-bound C (fin s m e) = signed-bound s _ C (rounded-bound C (m * up e) (down e) (down-pos e))
+quantised-bound C (inf s) = rw (size-flipped s (pos C)) (le-refl C)
+quantised-bound C (fin s m e) =
+    rw (size-flipped s (pos (roundedSize C (m * up e) (down e)))) (rounded-bound C (m * up e) (down e) (down-pos e))
 
 mag-le : (z : ℤ) → mag z ≤ natAbs z
 mag-le (pos n) = le-refl n
@@ -99,15 +111,11 @@ llr-bound C channel x = quantised-mag C (valueOf C channel x)
 
 -- ---- a sample negated gives the LLR negated
 
-signed-odd : (s : Bool) (n : ℕ) → signed (not s) n ≡ negℤ (signed s n)
-signed-odd false n = refl
-signed-odd true n = sym (negℤ-negℤ (pos n))
-
 pub quantised-odd : (C : ℕ) (value : Float) → quantised C (neg value) ≡ negℤ (quantised C value)
 unfolding quantised neg
 quantised-odd C nan = refl
-quantised-odd C (inf s) = signed-odd s C
-quantised-odd C (fin s m e) = signed-odd s (roundedSize C (m * up e) (down e))
+quantised-odd C (inf s) = flipped-xor true s (pos C)
+quantised-odd C (fin s m e) = flipped-xor true s (pos (roundedSize C (m * up e) (down e)))
 
 -- the sign of a product goes through its rounding
 cond-neg : (b : Bool) (x y x′ y′ : Float) → x′ ≡ neg x → y′ ≡ neg y → cond b x′ y′ ≡ neg (cond b x y)
@@ -152,7 +160,8 @@ mul-neg f (fin s m e) (fin t n d) =
     ap (λ (b : Bool). round f b (m * up e * (n * up d)) (down e * down d)) (unlike-not s t)
     ∙ round-neg f (unlike s t) (m * up e * (n * up d)) (down e * down d)
 
-either-odd : (C : ℕ) (s : Bool) (size : Float) → quantised C (cond (not s) (neg size) size) ≡ negℤ (quantised C (cond s (neg size) size))
+either-odd : (C : ℕ) (s : Bool) (size : Float)
+    → quantised C (cond (not s) (neg size) size) ≡ negℤ (quantised C (cond s (neg size) size))
 either-odd C true size = sym (ap negℤ (quantised-odd C size) ∙ negℤ-negℤ (quantised C size))
 either-odd C false size = quantised-odd C size
 
@@ -160,8 +169,9 @@ zero-odd : (C : ℕ) → quantised C (fin false 0 (pos 0)) ≡ negℤ (quantised
 unfolding quantised
 zero-odd C = rw (rounded-zero C)
 
-sign-odd : (C : ℕ) (x size : Float) → quantised C (withSign (neg x) size) ≡ negℤ (quantised C (withSign x size))
-unfolding withSign neg quantised
+sign-odd : (C : ℕ) (x size : Float)
+    → quantised C (withSampleSign (neg x) size) ≡ negℤ (quantised C (withSampleSign x size))
+unfolding withSampleSign neg quantised
 sign-odd C nan size = refl
 sign-odd C (inf s) size = either-odd C s size
 sign-odd C (fin s zero e) size = zero-odd C
@@ -172,57 +182,59 @@ llr-odd C (Gaussian factor) x = ap (quantised C) (mul-neg binary32 x factor) ∙
 llr-odd C (Flipping weight) x = sign-odd C x weight
 llr-odd C Erasing x = sign-odd C x (fin false C (pos 0))
 
--- ---- samples negated at some places
+-- ---- samples flipped at some places
 
-llr-flipped : (C : ℕ) (channel : Channel) (b : Bool) (x : Float) → llrOf C channel (negatedIf b x) ≡ flipped b (llrOf C channel x)
+llr-flipped : (C : ℕ) (channel : Channel) (b : Bool) (x : Float)
+    → llrOf C channel (flippedSample b x) ≡ flipped b (llrOf C channel x)
 llr-flipped C channel true x = llr-odd C channel x
 llr-flipped C channel false x = refl
 
-finite-negated : (b : Bool) (x : Float) → isFinite (negatedIf b x) ≡ isFinite x
+finite-flipped : (b : Bool) (x : Float) → isFinite (flippedSample b x) ≡ isFinite x
 unfolding isFinite neg
-finite-negated false x = refl
-finite-negated true nan = refl
-finite-negated true (inf s) = refl
-finite-negated true (fin s m e) = refl
+finite-flipped false x = refl
+finite-flipped true nan = refl
+finite-flipped true (inf s) = refl
+finite-flipped true (fin s m e) = refl
 
-nan-negated : (b : Bool) → nan ≡ negatedIf b nan
+nan-flipped : (b : Bool) → nan ≡ flippedSample b nan
 unfolding neg
-nan-negated true = refl
-nan-negated false = refl
+nan-flipped true = refl
+nan-flipped false = refl
 
 -- (behind the list's end both sides read a NaN)
-sample-negated : (n : ℕ) (bit : ℕ → Bool) (samples : List Float) (i : ℕ) → i < n
-    → getD (negated n bit samples) i nan ≡ negatedIf (bit i) (getD samples i nan)
-sample-negated zero bit samples i h = absurd (not-suc-le-zero h)
-sample-negated (suc n) bit [] i h = nan-negated (bit i)
-sample-negated (suc n) bit (x ∷ samples) zero h = refl
-sample-negated (suc n) bit (x ∷ samples) (suc i) h = sample-negated n (λ j. bit (suc j)) samples i (le-of-suc-le-suc h)
+sample-flipped : (n : ℕ) (bit : ℕ → Bool) (samples : List Float) (i : ℕ) → i < n
+    → getD (flippedSamples n bit samples) i nan ≡ flippedSample (bit i) (getD samples i nan)
+sample-flipped zero bit samples i h = absurd (not-suc-le-zero h)
+sample-flipped (suc n) bit [] i h = nan-flipped (bit i)
+sample-flipped (suc n) bit (x ∷ samples) zero h = refl
+sample-flipped (suc n) bit (x ∷ samples) (suc i) h = sample-flipped n (λ j. bit (suc j)) samples i (le-of-suc-le-suc h)
 
-all-negated : (n k : ℕ) (bit : ℕ → Bool) (samples : List Float) → k ≤ n
-    → allFinite k (negated n bit samples) ≡ allFinite k samples
-all-negated n zero bit samples h = refl
-all-negated n (suc k) bit samples h =
-    ap₂ (λ (a b : Bool). a && b) (all-negated n k bit samples (omega arith))
-    (ap isFinite (sample-negated n bit samples k h) ∙ finite-negated (bit k) (getD samples k nan))
+all-flipped : (n k : ℕ) (bit : ℕ → Bool) (samples : List Float) → k ≤ n
+    → allFinite k (flippedSamples n bit samples) ≡ allFinite k samples
+all-flipped n k bit samples h =
+    every-same k _ _
+    (λ i l. ap isFinite (sample-flipped n bit samples i (omega arith)) ∙ finite-flipped (bit i) (getD samples i nan))
 
 -- the number of the answer stays
-pub front-number-negated : (m C : ℕ) (channel : Channel) (bit : ℕ → Bool) (samples : List Float) (room : ℕ)
-    → frontNumber m C channel (negated (2 ^ m) bit samples) room ≡ frontNumber m C channel samples room
-front-number-negated m C channel bit samples room =
-    simp (length-overwrite, all-negated (2 ^ m) (2 ^ m) bit samples (le-refl (2 ^ m)))
+pub front-number-flipped : (m C : ℕ) (channel : Channel) (bit : ℕ → Bool) (samples : List Float) (room : ℕ)
+    → frontNumber m C channel (flippedSamples (2 ^ m) bit samples) room ≡ frontNumber m C channel samples room
+front-number-flipped m C channel bit samples room =
+    simp (length-overwrite, all-flipped (2 ^ m) (2 ^ m) bit samples (le-refl (2 ^ m)))
 
--- each LLR is flipped where its sample is negated
-pub llr-negated : (n C : ℕ) (channel : Channel) (bit : ℕ → Bool) (samples : List Float) (i : ℕ) → i < n
-    → llrOf C channel (getD (negated n bit samples) i nan) ≡ flipped (bit i) (llrOf C channel (getD samples i nan))
-llr-negated n C channel bit samples i h =
-    ap (llrOf C channel) (sample-negated n bit samples i h) ∙ llr-flipped C channel (bit i) (getD samples i nan)
+-- each LLR is flipped where its sample is
+pub llr-at-flipped : (n C : ℕ) (channel : Channel) (bit : ℕ → Bool) (samples : List Float) (i : ℕ) → i < n
+    → llrOf C channel (getD (flippedSamples n bit samples) i nan)
+    ≡ flipped (bit i) (llrOf C channel (getD samples i nan))
+llr-at-flipped n C channel bit samples i h =
+    ap (llrOf C channel) (sample-flipped n bit samples i h) ∙ llr-flipped C channel (bit i) (getD samples i nan)
 
-pub front-llrs-negated : (m C : ℕ) (channel : Channel) (bit : ℕ → Bool) (samples : List Float) (old : List ℤ)
-    → frontLlrs m C channel (negated (2 ^ m) bit samples) old
+pub front-llrs-flipped : (m C : ℕ) (channel : Channel) (bit : ℕ → Bool) (samples : List Float) (old : List ℤ)
+    → frontLlrs m C channel (flippedSamples (2 ^ m) bit samples) old
     ≡ unlessRefused (frontNumber m C channel samples (length old))
     (overwrite (2 ^ m) (λ i. flipped (bit i) (llrOf C channel (getD samples i nan))) old) old
-front-llrs-negated m C channel bit samples old =
+front-llrs-flipped m C channel bit samples old =
     ap₂ (λ (number : ℕ) (new : List ℤ). unlessRefused number new old)
-    (front-number-negated m C channel bit samples (length old))
-    (overwrite-same (2 ^ m) (λ i. llrOf C channel (getD (negated (2 ^ m) bit samples) i nan))
-    (λ i. flipped (bit i) (llrOf C channel (getD samples i nan))) old (λ i h k. llr-negated (2 ^ m) C channel bit samples i h))
+    (front-number-flipped m C channel bit samples (length old))
+    (overwrite-same (2 ^ m) (λ i. llrOf C channel (getD (flippedSamples (2 ^ m) bit samples) i nan))
+    (λ i. flipped (bit i) (llrOf C channel (getD samples i nan))) old
+    (λ i h k. llr-at-flipped (2 ^ m) C channel bit samples i h))

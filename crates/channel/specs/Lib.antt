@@ -1,5 +1,5 @@
 pub mod Front
-pub mod Working
-pub mod Negated
+pub mod Private
+pub mod FlippedSamples
 pub mod FrontLaws
 pub mod Cases

@@ -1,18 +1,31 @@
-// The channel front: 32-bit float samples of a Gaussian, a flipping or an erasing channel become whole LLRs of size at most the ceiling.
-// It sees `calls` alone. It promises document 01's LLR for each of the first 2^m samples, for every float there is, and the number and the
-// exact condition of each refusal.
+// The channel front: 32-bit float samples of a Gaussian, a flipping or an erasing channel become whole LLRs of size at
+// most the ceiling. It sees `calls` alone. It promises document 01's LLR for each of the first 2^m samples, for every
+// float there is, and the number and the exact condition of each refusal.
 ghost use mathlib.Core.Path.{_≡_};
 ghost use mathlib.Core.Bool.{not};
 ghost use Prim.Native.Nat.{_<_, _≤_, _^_};
 ghost use lib.Dec.{T};
-ghost use lib.Signed.{mag};
+ghost use lib.IntN.{natAbs};
 ghost use lib.Ieee.{binary32, mul, nan, isNan};
 ghost use lib.ListN.{length, getD};
+ghost use Rattle.calls.specs.Bounds.{largestCeiling};
 ghost use Rattle.calls.specs.Numbers.{numberOf};
 ghost use Rattle.calls.specs.Memory.{overwrite};
-ghost use Rattle.channel.specs.Front.{quantised, roundedSize, isFinite, isAboveZero, isUsable, allFinite, llrOf, frontNumber, frontLlrs};
-ghost use Rattle.channel.specs.Working.{fieldUnits, bySign};
+ghost use Rattle.channel.specs.Front.{
+  quantised,
+  roundedSize,
+  isFinite,
+  isAboveZero,
+  isUsable,
+  allFinite,
+  llrOf,
+  frontNumber,
+  frontLlrs,
+};
+ghost use Rattle.channel.specs.Private.{fieldUnits, bySign};
 use calls::Answer;
+use calls::LARGEST_CEILING;
+use calls::LARGEST_M;
 use calls::Refusal;
 
 // The kind of channel: Gaussian with its factor, flipping with its weight, erasing.
@@ -65,10 +78,11 @@ fn all_finite(samples: &[f32], n: usize) -> bool
     true
 }
 
-// The size of a float, given by its exponent field and its digits, as a whole number of at most the ceiling: the ceiling where the size
-// reaches it, else the nearest, halves up. A field below 126 is a size below a half; one of 138 is 2,048 or more, an infinity included.
+// The size of a float, given by its exponent field and its digits, as a whole number of at most the ceiling: the
+// ceiling where the size reaches it, else the nearest, halves up. A field below 126 is a size below a half; one of 138
+// is 2,048 or more, an infinity included.
 fn rounded_size(field: u32, digits: u32, ceiling: u32) -> u32
-    requires { ⌜ (digits < 2 ^ 23) × (1 ≤ ceiling) × (ceiling ≤ 2047) ⌝ }
+    requires { ⌜ (digits < 2 ^ 23) × (1 ≤ ceiling) × (ceiling ≤ largestCeiling) ⌝ }
     ensures { λ r. ⌜ r ≡ roundedSize ceiling (fieldUnits field digits) (2 ^ 149) ⌝ }
 {
     if field < 126 {
@@ -88,7 +102,7 @@ fn rounded_size(field: u32, digits: u32, ceiling: u32) -> u32
 // The exact value, read from the bits and brought to a whole number by its size; the sign is given back afterwards.
 fn quantise(value: f32, ceiling: u32) -> i16
     requires { ⌜ T (not (isNan value)) ⌝ }
-    requires { ⌜ (1 ≤ ceiling) × (ceiling ≤ 2047) ⌝ }
+    requires { ⌜ (1 ≤ ceiling) × (ceiling ≤ largestCeiling) ⌝ }
     ensures { λ r. ⌜ r ≡ quantised ceiling value ⌝ }
 {
     let bits = f32::to_bits(value);
@@ -98,7 +112,7 @@ fn quantise(value: f32, ceiling: u32) -> i16
 
 // A size with the sign of a sample; a sample of either zero gives 0.
 fn by_sign(sample: f32, size: i16) -> i16
-    requires { ⌜ mag size ≤ 2047 ⌝ }
+    requires { ⌜ natAbs size ≤ largestCeiling ⌝ }
     ensures { λ r. ⌜ r ≡ bySign sample size ⌝ }
 {
     if sample < 0.0 {
@@ -113,10 +127,12 @@ fn by_sign(sample: f32, size: i16) -> i16
 // The Gaussian kind: each LLR is one product, rounded once, and quantised.
 fn fill_products(factor: f32, ceiling: u32, n: usize, samples: &[f32], llr: &mut [i16])
     requires { ⌜ T (isAboveZero factor) ⌝ }
-    requires { ⌜ (1 ≤ ceiling) × (ceiling ≤ 2047) ⌝ }
+    requires { ⌜ (1 ≤ ceiling) × (ceiling ≤ largestCeiling) ⌝ }
     requires { ⌜ (n ≤ length (now samples)) × (n ≤ length (now llr)) ⌝ }
     requires { ⌜ T (allFinite n (now samples)) ⌝ }
-    ensures { λ _. ⌜ now (llr .exit) ≡ overwrite n (λ i. quantised ceiling (mul binary32 (getD (now (samples .entry)) i nan) factor)) (now (llr .entry)) ⌝ }
+    ensures { λ _. ⌜ now (llr .exit)
+        ≡ overwrite n (λ i. quantised ceiling (mul binary32 (getD (now (samples .entry)) i nan) factor))
+        (now (llr .entry)) ⌝ }
 {
     let mut i = 0;
     while i < n {
@@ -127,9 +143,10 @@ fn fill_products(factor: f32, ceiling: u32, n: usize, samples: &[f32], llr: &mut
 
 // The flipping and the erasing kind: each LLR is one size with the sample's sign.
 fn fill_signs(size: i16, n: usize, samples: &[f32], llr: &mut [i16])
-    requires { ⌜ mag size ≤ 2047 ⌝ }
+    requires { ⌜ natAbs size ≤ largestCeiling ⌝ }
     requires { ⌜ (n ≤ length (now samples)) × (n ≤ length (now llr)) ⌝ }
-    ensures { λ _. ⌜ now (llr .exit) ≡ overwrite n (λ i. bySign (getD (now (samples .entry)) i nan) size) (now (llr .entry)) ⌝ }
+    ensures { λ _. ⌜ now (llr .exit)
+        ≡ overwrite n (λ i. bySign (getD (now (samples .entry)) i nan) size) (now (llr .entry)) ⌝ }
 {
     let mut i = 0;
     while i < n {
@@ -140,10 +157,11 @@ fn fill_signs(size: i16, n: usize, samples: &[f32], llr: &mut [i16])
 
 fn fill(channel: Channel, ceiling: u32, n: usize, samples: &[f32], llr: &mut [i16])
     requires { ⌜ T (isUsable channel) ⌝ }
-    requires { ⌜ (1 ≤ ceiling) × (ceiling ≤ 2047) ⌝ }
+    requires { ⌜ (1 ≤ ceiling) × (ceiling ≤ largestCeiling) ⌝ }
     requires { ⌜ (n ≤ length (now samples)) × (n ≤ length (now llr)) ⌝ }
     requires { ⌜ T (allFinite n (now samples)) ⌝ }
-    ensures { λ _. ⌜ now (llr .exit) ≡ overwrite n (λ i. llrOf ceiling channel (getD (now (samples .entry)) i nan)) (now (llr .entry)) ⌝ }
+    ensures { λ _. ⌜ now (llr .exit)
+        ≡ overwrite n (λ i. llrOf ceiling channel (getD (now (samples .entry)) i nan)) (now (llr .entry)) ⌝ }
 {
     match channel {
         Channel::Gaussian(factor) => fill_products(factor, ceiling, n, samples, llr),
@@ -156,10 +174,10 @@ fn fill(channel: Channel, ceiling: u32, n: usize, samples: &[f32], llr: &mut [i1
 fn refusal(m: u32, ceiling: u32, channel: Channel, samples: &[f32], room: usize) -> Answer
     ensures { λ r. ⌜ numberOf r ≡ frontNumber m ceiling channel (now (samples .entry)) room ⌝ }
 {
-    if m < 1 || 10 < m {
+    if m < 1 || LARGEST_M < m {
         return Answer::Refused(Refusal::BlockLength);
     }
-    if ceiling < 1 || 2047 < ceiling {
+    if ceiling < 1 || LARGEST_CEILING < ceiling {
         return Answer::Refused(Refusal::Ceiling);
     }
     let n: usize = 1 << m;

@@ -1,36 +1,23 @@
--- Signed numbers in an `i16`. The code's view of a number z is `toZ w16 (ofZ w16 z)`, which is z where z fits; `-z` in the code is 0 - z.
+-- What the arithmetic of messages computes in an `i16`: sums that fit, signs, a scaled size, and the cut.
 use Prim.Native.Nat.{ℕ, zero, suc, _+_, _-_, _*_, _<_, _≤_, _^_, min}
-use mathlib.Core.Path.{_≡_, refl, sym, subst, _∙_}
-use mathlib.Core.Bool.{Bool, true, false, not, cond, Bool·beq, true≢false}
+use mathlib.Core.Path.{_≡_, refl}
+use mathlib.Core.Bool.{Bool, true, false, not, cond, Bool·beq}
 use native.Mathlib.Nat.{mul-le-mul}
 use native.Mathlib.Omega.{arith}
-use lib.IntN.{ℤ, pos, negsuc, negℤ, natAbs, subℕ, _+ℤ_, _-ℤ_, +ℤ-idl}
-use lib.Signed.{mag, ltZ, nonNeg}
-use lib.Dec.{T, ltb}
+use lib.IntN.{ℤ, pos, negsuc, negℤ, natAbs, subℕ, _+ℤ_}
+use lib.Signed.{ltZ}
+use lib.Dec.{ltb}
 use borrow.Author.Tests.{le-ltb, ltb-true, ltb-false}
 use mir.Syntax.{w16}
-use mir.Val.{SFits, toZ, ofZ}
-use mir.Facts.{toZ-ofZ}
-use Rattle.calls.specs.Signs.{isNegative, flipped}
-use Rattle.calls.specs.SignLaws.{size-neg}
-use Rattle.polar.specs.Code.{xor}
+use mir.Val.{SFits}
+use Rattle.calls.proofs.Signed.{size-fits}
+use Rattle.calls.specs.Bounds.{largestCeiling, largestScale}
+use Rattle.calls.specs.Signs.{flipped}
+use Rattle.calls.specs.Bits.{xor}
 use Rattle.message.specs.Message.{cut}
-use Rattle.message.specs.Working.{lesser, greater}
+use Rattle.message.specs.Private.{lesser, greater}
 
--- ---- a number that fits
-
-pub size-fits : (z : ℤ) → natAbs z < 2 ^ 15 → SFits w16 z
-size-fits (pos n) h = record { sfits = h }
-size-fits (negsuc n) h = record { sfits = omega (arith, h) }
-
-pub held : (z : ℤ) → natAbs z < 2 ^ 15 → toZ w16 (ofZ w16 z) ≡ z
-held z h = toZ-ofZ (size-fits z h)
-
--- the result of a call, by what the callee ensures of it: told (c .g .ok) (c .g .ensures)
-pub told : {z v : ℤ} → mag z < 2 ^ 15 → z ≡ v → toZ w16 (ofZ w16 z) ≡ v
-told {z} h e = toZ-ofZ {w = w16} (record { sfits = h }) ∙ e
-
--- ---- sums and negations
+-- ---- sums
 
 difference-size : (a b : ℕ) (t : Bool) → ltb a b ≡ t → natAbs (cond t (negsuc (b - suc a)) (pos (a - b))) ≤ a + b
 difference-size a b true e = let h : a < b = ltb-true a b e in omega arith
@@ -47,25 +34,7 @@ sum-size (negsuc a) (negsuc b) = omega arith
 pub sum-fits : (a b : ℤ) → natAbs a + natAbs b < 2 ^ 15 → SFits w16 (a +ℤ b)
 sum-fits a b h = size-fits (a +ℤ b) (omega (arith, sum-size a b))
 
-pub minus-fits : (z : ℤ) → natAbs z < 2 ^ 15 → SFits w16 (pos 0 -ℤ z)
-minus-fits z h = subst (SFits w16) (sym (+ℤ-idl (negℤ z))) (size-fits (negℤ z) (omega (arith, size-neg z)))
-
-pub minus-held : (z : ℤ) → natAbs z < 2 ^ 15 → toZ w16 (ofZ w16 (pos 0 -ℤ z)) ≡ negℤ z
-minus-held z h = toZ-ofZ (minus-fits z h) ∙ +ℤ-idl (negℤ z)
-
--- ---- tests
-
-pub below-zero : (z : ℤ) → ltZ z (pos 0) ≡ isNegative z
-below-zero (pos n) = le-ltb n 0 (omega arith)
-below-zero (negsuc n) = refl
-
-pub not-below : (z : ℤ) → ltZ z (pos 0) ≡ false → T (nonNeg z)
-not-below (pos n) e = tt
-not-below (negsuc n) e = absurd (true≢false e)
-
-pub below-negated : (z : ℤ) → ltZ z (pos 0) ≡ true → T (nonNeg (negℤ z))
-below-negated (pos n) e = let h : n < 0 = ltb-true n 0 e in absurd (omega arith)
-below-negated (negsuc n) e = tt
+-- ---- signs
 
 -- two bits that differ are those whose exclusive-or is 1
 pub unequal : (s t : Bool) (z : ℤ) → flipped (not (Bool·beq s t)) z ≡ flipped (xor s t) z
@@ -76,7 +45,8 @@ unequal true true z = refl
 
 -- ---- a scaled size
 
-pub product-le : (scale size : ℕ) → scale ≤ 16 → size ≤ 2047 → scale * size ≤ 16 * 2047
+pub product-le : (scale size : ℕ) → scale ≤ largestScale → size ≤ largestCeiling
+    → scale * size ≤ largestScale * largestCeiling
 product-le scale size h g = mul-le-mul h g
 
 -- ---- the cut, from above and then from below

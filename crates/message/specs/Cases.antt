@@ -11,12 +11,14 @@ use Rattle.message.specs.declared.MinSum.{MinSum}
 abbrev with : ℕ → ℕ → MinSum
 with C k = record { ceiling = C; scale = k }
 
--- -3 and 3 with k = 15: the size 45 / 16 is 2, and the sign follows. The signed product -45 shifted by 4 places would be -3
+-- -3 and 3 with k = 15: the size 45 / 16 is 2, and the sign follows. The signed product -45 shifted by 4 places would
+-- be -3
 scaled-size : f (with 31 15) (negsuc 2) (pos 3) ∷ shrZ (pos 15 *ℤ negsuc 2) 16 ∷ [] ≡ negsuc 1 ∷ negsuc 2 ∷ []
 unfolding f
 scaled-size = refl
 
--- the four products of signs, and each k at its ends: with k = 16 the smaller size stays, with k = 1 a size below 16 is 0
+-- the four products of signs, and each k at its ends: with k = 16 the smaller size stays, with k = 1 a size below 16 is
+-- 0
 signs :
     f (with 31 16) (pos 5) (pos 9)
     ∷ f (with 31 16) (pos 5) (negsuc 8)

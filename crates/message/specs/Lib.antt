@@ -1,4 +1,4 @@
 pub mod Message
-pub mod Working
+pub mod Private
 pub mod MessageLaws
 pub mod Cases

@@ -1,5 +1,5 @@
--- Laws of the message arithmetic, for every rule and every two numbers: sizes, orders, and how a turned sign comes out; and f by the
--- cases of document 01. `Tested` is what the decoder has tested of a rule.
+-- Laws of the message arithmetic, for every rule and every two numbers: sizes, orders, and how a turned sign comes out;
+-- and f by the cases of document 01. `RuleInRange` is what the decoder has tested of a rule.
 use Prim.Native.Nat.{ℕ, zero, suc, _*_, _/_, _≤_, min}
 use mathlib.Core.Path.{_≡_, refl, sym, ap, ap₂, _∙_}
 use mathlib.Core.Bool.{Bool, true, false, cond, _||_}
@@ -7,24 +7,19 @@ use native.Mathlib.Nat.{le-refl, mul-le-mul, mul-zero, one-mul, min-comm}
 use native.Mathlib.Omega.{arith}
 use lib.IntN.{ℤ, pos, negsuc, negℤ, natAbs, _+ℤ_, _*ℤ_, negℤ-negℤ, negℤ-+ℤ, +ℤ-comm, +ℤ-idr}
 use Rattle.calls.specs.Signs.{isNegative, flipped}
-use Rattle.calls.specs.SignLaws.{size-flipped, flipped-zero}
-use Rattle.polar.specs.Code.{xor}
-use Rattle.polar.specs.BitLaws.{xor-comm}
+use Rattle.calls.specs.Bits.{xor}
+use Rattle.calls.specs.Bounds.{largestCeiling, largestScale}
+use Rattle.calls.specs.BitLaws.{xor-comm}
+use Rattle.calls.specs.SignLaws.{size-flipped, flipped-zero, flipped-xor}
 use Rattle.message.specs.Message.{cut, add, f}
 use Rattle.message.specs.declared.MinSum.{MinSum}
 
 -- ceiling and scale within their ranges
-pub record Tested (rule : MinSum) : Type 0 where
+pub record RuleInRange (rule : MinSum) : Type 0 where
   pub some : 1 ≤ rule .ceiling
-  pub ceiling-le : rule .ceiling ≤ 2047
+  pub ceiling-le : rule .ceiling ≤ largestCeiling
   pub scale-some : 1 ≤ rule .scale
-  pub scale-le : rule .scale ≤ 16
-
--- the product of two signs, one turned after the other
-pub flipped-xor : (s t : Bool) (z : ℤ) → flipped (xor s t) z ≡ flipped s (flipped t z)
-flipped-xor false t z = refl
-flipped-xor true false z = refl
-flipped-xor true true z = sym (negℤ-negℤ z)
+  pub scale-le : rule .scale ≤ largestScale
 
 -- ---- the sum
 
@@ -61,16 +56,16 @@ pub f-size-is : (rule : MinSum) (a b : ℤ) → natAbs (f rule a b) ≡ rule .sc
 unfolding f
 f-size-is rule a b = simp size-flipped
 
-f-size-min : (rule : MinSum) (a b : ℤ) → rule .scale ≤ 16 → natAbs (f rule a b) ≤ min (natAbs a) (natAbs b)
+f-size-min : (rule : MinSum) (a b : ℤ) → rule .scale ≤ largestScale → natAbs (f rule a b) ≤ min (natAbs a) (natAbs b)
 f-size-min rule a b h =
     let m = min (natAbs a) (natAbs b) in
     let product : rule .scale * m ≤ 16 * m = mul-le-mul h (le-refl m) in
     rw (f-size-is rule a b) (omega arith)
 
-pub f-size : (rule : MinSum) (a b : ℤ) → rule .scale ≤ 16 → natAbs (f rule a b) ≤ natAbs a
+pub f-size : (rule : MinSum) (a b : ℤ) → rule .scale ≤ largestScale → natAbs (f rule a b) ≤ natAbs a
 f-size rule a b h = omega (arith, f-size-min rule a b h)
 
-pub f-size-second : (rule : MinSum) (a b : ℤ) → rule .scale ≤ 16 → natAbs (f rule a b) ≤ natAbs b
+pub f-size-second : (rule : MinSum) (a b : ℤ) → rule .scale ≤ largestScale → natAbs (f rule a b) ≤ natAbs b
 f-size-second rule a b h = omega (arith, f-size-min rule a b h)
 
 pub f-comm : (rule : MinSum) (a b : ℤ) → f rule a b ≡ f rule b a
@@ -99,7 +94,8 @@ f-flipped-first rule false a b = refl
 f-flipped-first rule true a b = f-negated rule a b
 
 -- the product of the signs comes out of f
-pub f-flipped : (rule : MinSum) (s t : Bool) (a b : ℤ) → f rule (flipped s a) (flipped t b) ≡ flipped (xor s t) (f rule a b)
+pub f-flipped : (rule : MinSum) (s t : Bool) (a b : ℤ)
+    → f rule (flipped s a) (flipped t b) ≡ flipped (xor s t) (f rule a b)
 f-flipped rule s t a b =
     f-flipped-first rule s a (flipped t b)
     ∙ ap (flipped s) (f-comm rule a (flipped t b) ∙ f-flipped-first rule t b a ∙ ap (flipped t) (f-comm rule b a))
@@ -117,7 +113,8 @@ signOf (pos zero) = pos 0
 signOf (pos (suc n)) = pos 1
 signOf (negsuc n) = negsuc 0
 
--- 0 if either is 0; else the size is k times the smaller size, divided by 16 and cut down, and the sign is the product of the signs
+-- 0 if either is 0; else the size is k times the smaller size, divided by 16 and cut down, and the sign is the product
+-- of the signs
 abbrev pub fByCases : MinSum → ℤ → ℤ → ℤ
 fByCases rule a b =
     cond (isZero a || isZero b)
@@ -129,7 +126,9 @@ unfolding f
 f-cases rule (pos zero) b = f-zero rule b
 f-cases rule (pos (suc n)) (pos zero) = f-comm rule (pos (suc n)) (pos 0) ∙ f-zero rule (pos (suc n))
 f-cases rule (pos (suc n)) (pos (suc m)) = ap pos (sym (one-mul _))
-f-cases rule (pos (suc n)) (negsuc m) = ap (λ (i : ℕ). negℤ (pos i)) (sym (one-mul (rule .scale * min (suc n) (suc m) / 16)))
+f-cases rule (pos (suc n)) (negsuc m) =
+    ap (λ (i : ℕ). negℤ (pos i)) (sym (one-mul (rule .scale * min (suc n) (suc m) / 16)))
 f-cases rule (negsuc n) (pos zero) = f-comm rule (negsuc n) (pos 0) ∙ f-zero rule (negsuc n)
-f-cases rule (negsuc n) (pos (suc m)) = ap (λ (i : ℕ). negℤ (pos i)) (sym (one-mul (rule .scale * min (suc n) (suc m) / 16)))
+f-cases rule (negsuc n) (pos (suc m)) =
+    ap (λ (i : ℕ). negℤ (pos i)) (sym (one-mul (rule .scale * min (suc n) (suc m) / 16)))
 f-cases rule (negsuc n) (negsuc m) = ap pos (sym (one-mul _))

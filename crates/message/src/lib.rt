@@ -1,13 +1,14 @@
 // The arithmetic of messages: scaled min-sum and the cut sum on signed 16-bit numbers of size at most the ceiling.
-// It sees `calls` and `polar`, and no criterion. It promises document 01's f and its sum, cut after the single addition. Its functions are
+// It sees `calls` alone. It promises document 01's f and its sum, cut after the single addition. Its functions are
 // offered to the crates above, which have tested ceiling and scale.
 ghost use mathlib.Core.Path.{_≡_};
-ghost use Prim.Native.Nat.{_*_, _/_, _^_, _<_, _≤_, min};
+ghost use Prim.Native.Nat.{_*_, _/_, _^_, _<_, _≤_};
 ghost use lib.IntN.{pos, natAbs};
+ghost use Rattle.calls.specs.Bounds.{largestCeiling, largestScale};
 ghost use Rattle.calls.specs.Signs.{isNegative, flipped};
 ghost use Rattle.message.specs.Message.{add, f};
-ghost use Rattle.message.specs.MessageLaws.{Tested};
-ghost use Rattle.message.specs.Working.{lesser, greater};
+ghost use Rattle.message.specs.MessageLaws.{RuleInRange};
+ghost use Rattle.message.specs.Private.{lesser, greater};
 
 // The settings of the message arithmetic: the ceiling C and the scale k. A later setting of f joins them here.
 pub struct MinSum {
@@ -29,7 +30,7 @@ fn higher_of(value: i16, limit: i16) -> i16
 
 // The sum of two messages, cut to the range from -C to C: from above, then from below.
 pub fn add_cut(rule: MinSum, a: i16, b: i16) -> i16
-    requires { ⌜ Tested rule ⌝ }
+    requires { ⌜ RuleInRange rule ⌝ }
     requires { ⌜ (natAbs a ≤ rule .ceiling) × (natAbs b ≤ rule .ceiling) ⌝ }
     ensures { λ r. ⌜ r ≡ add rule a b ⌝ }
 {
@@ -43,21 +44,8 @@ fn is_negative(a: i16) -> bool
     a < 0
 }
 
-fn size_of(a: i16) -> u16
-    requires { ⌜ natAbs a ≤ 2047 ⌝ }
-    ensures { λ r. ⌜ r ≡ natAbs a ⌝ }
-{
-    if a < 0 { -a as u16 } else { a as u16 }
-}
-
-fn smaller_size(x: u16, y: u16) -> u16
-    ensures { λ r. ⌜ r ≡ min x y ⌝ }
-{
-    if x < y { x } else { y }
-}
-
 fn scaled(scale: u16, size: u16) -> u16
-    requires { ⌜ (scale ≤ 16) × (size ≤ 2047) ⌝ }
+    requires { ⌜ (scale ≤ largestScale) × (size ≤ largestCeiling) ⌝ }
     ensures { λ r. ⌜ r ≡ scale * size / 16 ⌝ }
 {
     scale * size / 16
@@ -74,11 +62,11 @@ fn with_sign(negative: bool, size: u16) -> i16
 
 // f of two messages. The size is scaled, and the sign given back afterwards.
 pub fn min_sum(rule: MinSum, a: i16, b: i16) -> i16
-    requires { ⌜ Tested rule ⌝ }
+    requires { ⌜ RuleInRange rule ⌝ }
     requires { ⌜ (natAbs a ≤ rule .ceiling) × (natAbs b ≤ rule .ceiling) ⌝ }
     ensures { λ r. ⌜ r ≡ f rule a b ⌝ }
 {
     let scale = rule.scale;
-    let size = scaled(scale, smaller_size(size_of(a), size_of(b)));
+    let size = scaled(scale, calls::smaller(calls::size(a), calls::size(b)));
     with_sign(is_negative(a) != is_negative(b), size)
 }

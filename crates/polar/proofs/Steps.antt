@@ -20,11 +20,20 @@ use Rattle.calls.specs.MemoryLaws.{
   overwriteFrom-behind,
   overwriteFrom-store,
 }
-use Rattle.polar.specs.Code.{xor, byteOf, bitOf, coded}
-use Rattle.polar.specs.Columns.{digit, bySide, step, column}
-use Rattle.polar.specs.BitLaws.{byte-of-bit, xor-bytes}
+use Rattle.calls.specs.Bits.{xor, byteOf, bitOf}
+use Rattle.polar.specs.Code.{coded}
+use Rattle.polar.specs.Columns.{digit, bySide, columnStep, column}
+use Rattle.calls.specs.BitLaws.{byte-of-bit, xor-bytes}
 use Rattle.polar.specs.BlockLaws.{bitsOf, Bits, bits-own, bits-written, read-back}
-use Rattle.polar.specs.DigitLaws.{Multiple, multiple-none, multiple-next, run-digit, run-fits, upper-fits, step-same}
+use Rattle.polar.specs.DigitLaws.{
+  Multiple,
+  multiple-none,
+  multiple-next,
+  run-digit,
+  run-fits,
+  upper-fits,
+  column-step-same,
+}
 use Rattle.polar.specs.TransformLaws.{column-coded, coded-same}
 
 -- ---- a run: the first i positions from p on are joined with those d behind them
@@ -46,13 +55,14 @@ module _ {p d i : ℕ} {old block : List ℕ} (h : Joined p d i old block) where
   joined-next long l =
       let f = pair old p d in
       let v : pair (overwriteFrom p i f old) p d i ≡ f i
-      = ap₂ bitXor (overwriteFrom-behind p i f old (p + i) 0 (omega arith)) (overwriteFrom-behind p i f old (p + d + i) 0 (omega arith)) in
+      = ap₂ bitXor (overwriteFrom-behind p i f old (p + i) 0 (omega arith))
+      (overwriteFrom-behind p i f old (p + d + i) 0 (omega arith)) in
       record { is = rw (h .is, v, add-one i) (overwriteFrom-store p i f old (omega arith)) }
 
 -- ---- a step over the distance 2 ^ t: the first p positions, whole runs, are done
 
 abbrev stepped : ℕ → List ℕ → ℕ → ℕ
-stepped t old i = byteOf (step t (bitsOf old) i)
+stepped t old i = byteOf (columnStep t (bitsOf old) i)
 
 pub record Stepped (t p : ℕ) (old block : List ℕ) : Type 0 where
   pub runs : Multiple (2 ^ t) p
@@ -85,7 +95,8 @@ module _ {t p : ℕ} {old block : List ℕ} (h : Stepped t p old block) where
         ∙ xor-bytes (bitsOf old (p + i)) (bitsOf old (p + i + d))
         ∙ rw upper
 
-    pub stepped-upper : digit t p ≡ 0 → (e y : _) → e ≡ d → y ≡ overwriteFrom p e (pair block p e) block → Stepped t (p + e) old y
+    pub stepped-upper : digit t p ≡ 0 → (e y : _) → e ≡ d → y ≡ overwriteFrom p e (pair block p e) block
+        → Stepped t (p + e) old y
     stepped-upper z e y same is = rw same record {
       runs = multiple-next (h .runs);
       is = is ∙ rw (same, h .is) (overwrite-more p d _ (stepped t old) old (joins z));
@@ -119,15 +130,19 @@ module _ {m s : ℕ} {old block : List ℕ} (h : Columned m s old block) where
   pub columned-bits : Bits (2 ^ m) old → Bits (2 ^ m) block
   columned-bits bits = bits-written (2 ^ m) (column m (bitsOf old) s) old block (bits .long) (h .is)
 
-  pub columned-next : Bits (2 ^ m) old → s < m → (y : List ℕ) → y ≡ overwrite (2 ^ m) (stepped (m - 1 - s) block) block → Columned m (s + 1) old y
+  pub columned-next : Bits (2 ^ m) old → s < m → (y : List ℕ) → y ≡ overwrite (2 ^ m) (stepped (m - 1 - s) block) block
+      → Columned m (s + 1) old y
   columned-next bits l y e =
       let t : m - 1 - s ≡ m - suc s = omega arith in
       record {
         is = rw (add-one s, e, t)
             (overwrite-same (2 ^ m) (stepped (m - suc s) block) (λ i. byteOf (column m (bitsOf old) (suc s) i)) block
-            (λ i q r. ap byteOf (step-same m (m - suc s) i (bitsOf block) (column m (bitsOf old) s) (omega arith) q
+            (λ i q r. ap byteOf
+            (column-step-same m (m - suc s) i (bitsOf block) (column m (bitsOf old) s) (omega arith) q
             (read-back (2 ^ m) (column m (bitsOf old) s) old block (bits .long) (h .is))))
-            ∙ rw (h .is) (overwrite-twice (2 ^ m) (λ i. byteOf (column m (bitsOf old) (suc s) i)) (λ i. byteOf (column m (bitsOf old) s i)) old));
+            ∙ rw (h .is)
+            (overwrite-twice (2 ^ m) (λ i. byteOf (column m (bitsOf old) (suc s) i))
+            (λ i. byteOf (column m (bitsOf old) s i)) old));
       }
 
   pub columned-all : s ≡ m → block ≡ overwrite (2 ^ m) (λ i. byteOf (coded m (bitsOf old) i)) old
@@ -135,8 +150,10 @@ module _ {m s : ℕ} {old block : List ℕ} (h : Columned m s old block) where
       h .is ∙ rw e (overwrite-same (2 ^ m) _ _ old (λ i q r. ap byteOf (column-coded m i (bitsOf old) q)))
 
 -- ---- the bits u, placed and then coded in place, give the coded bits of u
-pub placed-coded : (m : ℕ) (u : ℕ → Bool) (old x y : List ℕ) → 2 ^ m ≤ length old → x ≡ overwrite (2 ^ m) (λ i. byteOf (u i)) old
-    → y ≡ overwrite (2 ^ m) (λ i. byteOf (coded m (bitsOf x) i)) x → y ≡ overwrite (2 ^ m) (λ i. byteOf (coded m u i)) old
+pub placed-coded : (m : ℕ) (u : ℕ → Bool) (old x y : List ℕ) → 2 ^ m ≤ length old
+    → x ≡ overwrite (2 ^ m) (λ i. byteOf (u i)) old
+    → y ≡ overwrite (2 ^ m) (λ i. byteOf (coded m (bitsOf x) i)) x
+    → y ≡ overwrite (2 ^ m) (λ i. byteOf (coded m u i)) old
 placed-coded m u old x y long placed is =
     is
     ∙ overwrite-same (2 ^ m) _ (λ i. byteOf (coded m u i)) x

@@ -7,8 +7,8 @@ use native.Mathlib.Omega.{arith}
 use lib.ListN.{length, getD}
 use Rattle.calls.specs.Memory.{overwrite}
 use Rattle.calls.specs.MemoryLaws.{length-overwrite, overwrite-at, overwrite-same, overwrite-own}
-use Rattle.polar.specs.Code.{byteOf, bitOf}
-use Rattle.polar.specs.BitLaws.{byte-of-bit, bit-of-byte, byte-le}
+use Rattle.calls.specs.Bits.{byteOf, bitOf}
+use Rattle.calls.specs.BitLaws.{byte-of-bit, bit-of-byte, byte-le}
 
 abbrev pub bitsOf : List ℕ → ℕ → Bool
 bitsOf l i = bitOf (getD l i 0)
@@ -19,7 +19,8 @@ pub record Bits (n : ℕ) (l : List ℕ) : Type 0 where
 
 pub bits-own : {n : ℕ} {l : List ℕ} → Bits n l → overwrite n (λ i. byteOf (bitsOf l i)) l ≡ l
 bits-own {n} {l} h =
-    overwrite-same n (λ i. byteOf (bitsOf l i)) (λ i. getD l i 0) l (λ i q r. byte-of-bit (getD l i 0) (h .at i q)) ∙ overwrite-own n l 0
+    overwrite-same n (λ i. byteOf (bitsOf l i)) (λ i. getD l i 0) l (λ i q r. byte-of-bit (getD l i 0) (h .at i q))
+    ∙ overwrite-own n l 0
 
 -- bits written to a list that is long enough: they are bits, and can be read back
 module _ (n : ℕ) (b : ℕ → Bool) (l x : List ℕ) (long : n ≤ length l) (e : x ≡ overwrite n (λ i. byteOf (b i)) l) where

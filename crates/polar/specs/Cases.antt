@@ -28,8 +28,8 @@ rising = refl
 read-out : readOutMessage (size 2) (1 ∷ 0 ∷ 1 ∷ 0 ∷ []) (5 ∷ 2 ∷ 6 ∷ 1 ∷ 8 ∷ []) (9 ∷ 9 ∷ 9 ∷ []) ≡ 2 ∷ 1 ∷ 9 ∷ []
 read-out = refl
 
--- the coder's refusals, each at its boundary: m of 0, 1, 10 and 11; slices one short; a mask byte of 2; no information position; a
--- message one short; a message byte of 2 within K and behind it
+-- the coder's refusals, each at its boundary: m of 0, 1, 10 and 11; slices one short; a mask byte of 2; no information
+-- position; a message one short; a message byte of 2 within K and behind it
 encode-numbers : encodeNumber (size 0) (free 1) (0 ∷ 0 ∷ []) 2
     ∷ encodeNumber (size 1) (free 1) (0 ∷ 0 ∷ []) 2
     ∷ encodeNumber (size 10) (free 1) (0 ∷ 0 ∷ []) 2
@@ -47,7 +47,8 @@ encode-numbers : encodeNumber (size 0) (free 1) (0 ∷ 0 ∷ []) 2
     ≡ 1 ∷ 0 ∷ 7 ∷ 1 ∷ 7 ∷ 7 ∷ 8 ∷ 0 ∷ 9 ∷ 7 ∷ 0 ∷ 13 ∷ 0 ∷ []
 encode-numbers = refl
 
--- several at once: 1 before 7, 7 before 8, 8 before 9 and 13, 9 before a short message and 13, a short message before 13
+-- several at once: 1 before 7, 7 before 8, 8 before 9 and 13, 9 before a short message and 13, a short message before
+-- 13
 encode-orders : encodeNumber (size 11) [] (2 ∷ []) 0
     ∷ encodeNumber (size 1) (2 ∷ []) (2 ∷ []) 0
     ∷ encodeNumber (size 1) (1 ∷ 3 ∷ []) (2 ∷ []) 2

@@ -1,44 +1,28 @@
 -- Document 01, "The code", and the coder's and the read-out's lines of "Numbers by who causes them". Definitions only.
 use Prim.Native.Nat.{ℕ, zero, suc, _+_, _^_}
-use mathlib.Core.Bool.{Bool, true, false, not, _&&_}
+use mathlib.Core.Bool.{Bool, true, false, _&&_}
 use mathlib.Core.List.{List, [], _∷_, _++_}
 use lib.Bits.{bitAnd}
 use lib.Dec.{eqb, leb}
 use lib.ListN.{length, getD}
-use Rattle.calls.specs.Numbers.{check, andThen, between}
+use Rattle.calls.specs.Bounds.{largestM}
+use Rattle.calls.specs.Bits.{xor, byteOf, bitOf}
+use Rattle.calls.specs.Numbers.{check, firstRefusal, between}
+use Rattle.calls.specs.Every.{every}
 use Rattle.calls.specs.Memory.{overwrite, unlessRefused}
 use Rattle.polar.specs.declared.Code.{Code}
+use Rattle.polar.specs.Mask.{byKind, maskAccepted}
 
--- ---- bits: `true` is 1. In memory a bit is a byte
-
-abbrev pub xor : Bool → Bool → Bool
-xor false b = b
-xor true b = not b
-
-abbrev pub byteOf : Bool → ℕ
-byteOf false = 0
-byteOf true = 1
-
-abbrev pub bitOf : ℕ → Bool
-bitOf zero = false
-bitOf (suc n) = true
-
--- ---- the mask: one byte for each position, 1 frozen, 0 information
-
--- by the mask's byte: the first at an information position, the second at a frozen one
-module _ {A : Type 0} where
-  abbrev pub byKind : ℕ → A → A → A
-  byKind zero information frozen = information
-  byKind (suc n) information frozen = frozen
+-- ---- the message in the block
 
 -- how many of the first n positions are information positions; K is the count over all N positions
 abbrev pub informationCount : List ℕ → ℕ → ℕ
 informationCount mask zero = 0
-informationCount mask (suc n) = informationCount mask n + byKind (getD mask n 0) 1 0
+informationCount mask (suc n) = informationCount mask n + byKind (getD mask n 0) 1 (λ bit. 0)
 
--- u: the message bits fill the information positions in rising order, frozen positions carry 0
+-- u: the message bits fill the information positions in rising order, a frozen position carries its frozen bit
 abbrev pub uBit : List ℕ → List ℕ → ℕ → Bool
-uBit mask message i = byKind (getD mask i 0) (bitOf (getD message (informationCount mask i) 0)) false
+uBit mask message i = byKind (getD mask i 0) (bitOf (getD message (informationCount mask i) 0)) (λ bit. bit)
 
 -- ---- the coded bits
 
@@ -59,21 +43,21 @@ coded m u i = parity (2 ^ m) (λ j. includes i j && u j)
 
 abbrev pub informationBytes : List ℕ → List ℕ → ℕ → List ℕ
 informationBytes mask bytes zero = []
-informationBytes mask bytes (suc n) = informationBytes mask bytes n ++ byKind (getD mask n 0) (getD bytes n 0 ∷ []) []
+informationBytes mask bytes (suc n) =
+    informationBytes mask bytes n ++ byKind (getD mask n 0) (getD bytes n 0 ∷ []) (λ bit. [])
 
 -- ---- the coder: 1; 7, mask or block; 8; 9; 7, message; 13. The read-out: 1; 7, mask or bytes; 8; 9; 7, message
 
--- the first n bytes are 0 or 1
+-- the first n bytes of a message are bits
 abbrev pub areBits : ℕ → List ℕ → Bool
-areBits zero l = true
-areBits (suc n) l = areBits n l && leb (getD l n 0) 1
+areBits n l = every n (λ i. leb (getD l i 0) 1)
 
 -- what both test of the code; `room` is the length of the slice of N elements beside the mask
 abbrev pub codeNumber : Code → List ℕ → ℕ → ℕ
 codeNumber code mask room =
-    check (between 1 10 (code .m)) 1
+    check (between 1 largestM (code .m)) 1
     (check (leb (2 ^ code .m) (length mask) && leb (2 ^ code .m) room) 7
-    (check (areBits (2 ^ code .m) mask) 8
+    (check (maskAccepted (2 ^ code .m) mask) 8
     (check (leb 1 (informationCount mask (2 ^ code .m))) 9 0)))
 
 -- what the coder tests of a message for K information positions
@@ -82,7 +66,7 @@ messageNumber message K = check (leb K (length message)) 7 (check (areBits K mes
 
 abbrev pub encodeNumber : Code → List ℕ → List ℕ → ℕ → ℕ
 encodeNumber code mask message room =
-    andThen (codeNumber code mask room) (messageNumber message (informationCount mask (2 ^ code .m)))
+    firstRefusal (codeNumber code mask room) (messageNumber message (informationCount mask (2 ^ code .m)))
 
 abbrev pub encodeBlock : Code → List ℕ → List ℕ → List ℕ → List ℕ
 encodeBlock code mask message old =
@@ -92,7 +76,7 @@ encodeBlock code mask message old =
 
 abbrev pub readOutNumber : Code → List ℕ → List ℕ → ℕ → ℕ
 readOutNumber code mask bytes room =
-    andThen (codeNumber code mask (length bytes)) (check (leb (informationCount mask (2 ^ code .m)) room) 7 0)
+    firstRefusal (codeNumber code mask (length bytes)) (check (leb (informationCount mask (2 ^ code .m)) room) 7 0)
 
 abbrev pub readOutMessage : Code → List ℕ → List ℕ → List ℕ → List ℕ
 readOutMessage code mask bytes old =

@@ -1,4 +1,5 @@
--- What the coder and the read-out do together: coding twice returns the message, coding is linear, and the read-out of u is the message.
+-- What the coder and the read-out do together: coding twice returns the message, coding is linear, and the read-out of
+-- u is the message.
 use Prim.Native.Nat.{ℕ, zero, suc, _+_, _^_, _≤_, _<_}
 use mathlib.Core.Path.{_≡_, refl, sym, ap, ap₂, _∙_}
 use mathlib.Core.Bool.{Bool, true, false, _&&_}
@@ -10,11 +11,27 @@ use lib.Dec.{leb}
 use lib.ListN.{length, getD, take}
 use lib.Seq.{take-suc, getD-take}
 use borrow.Author.Tests.{le-leb}
+use Rattle.calls.specs.Bounds.{largestM}
+use Rattle.calls.specs.EveryLaws.{every-of}
 use Rattle.calls.specs.Memory.{overwrite, unlessRefused}
 use Rattle.calls.specs.MemoryLaws.{length-overwrite, overwrite-same}
 use Rattle.polar.specs.declared.Code.{Code}
-use Rattle.polar.specs.Code.{xor, byteOf, bitOf, byKind, informationCount, uBit, coded, informationBytes, areBits, codeNumber, messageNumber, encodeNumber, encodeBlock, readOutNumber, readOutMessage}
-use Rattle.polar.specs.BitLaws.{byte-of-bit}
+use Rattle.calls.specs.Bits.{xor, byteOf, bitOf}
+use Rattle.polar.specs.Mask.{byKind}
+use Rattle.polar.specs.Code.{
+  informationCount,
+  uBit,
+  coded,
+  informationBytes,
+  areBits,
+  codeNumber,
+  messageNumber,
+  encodeNumber,
+  encodeBlock,
+  readOutNumber,
+  readOutMessage,
+}
+use Rattle.calls.specs.BitLaws.{byte-of-bit}
 use Rattle.polar.specs.BlockLaws.{bitsOf, Bits, bits-written, read-back}
 use Rattle.polar.specs.CodeLaws.{bits-at, CodeAccepted, MessageAccepted, encode-accepted}
 use Rattle.polar.specs.TransformLaws.{coded-xor, coded-same, coded-twice}
@@ -22,15 +39,22 @@ use Rattle.polar.specs.TransformLaws.{coded-xor, coded-same, coded-twice
 -- ---- a call is accepted where what its tests ask holds
 
 all-bits : (n : ℕ) (l : List ℕ) → ((i : ℕ) → i < n → getD l i 0 ≤ 1) → areBits n l ≡ true
-all-bits zero l h = refl
-all-bits (suc n) l h = rw (all-bits n l (λ i q. h i (omega arith))) (le-leb (getD l n 0) 1 (h n (omega arith)))
+all-bits n l h = every-of n (λ i. leb (getD l i 0) 1) (λ i q. le-leb (getD l i 0) 1 (h i q))
 
 code-passes : {code : Code} {mask : List ℕ} {room : ℕ} → CodeAccepted code mask room → codeNumber code mask room ≡ 0
 code-passes h =
-    simp (le-leb 1 _ (h .some), le-leb _ 10 (h .size), le-leb _ _ (h .mask-long), le-leb _ _ (h .room-long), h .values, le-leb 1 _ (h .information))
+    simp (
+      le-leb 1 _ (h .some),
+      le-leb _ largestM (h .size),
+      le-leb _ _ (h .mask-long),
+      le-leb _ _ (h .room-long),
+      h .values,
+      le-leb 1 _ (h .information),
+    )
 
 -- the same code with other room
-with-room : {code : Code} {mask : List ℕ} {room : ℕ} → CodeAccepted code mask room → (other : ℕ) → 2 ^ code .m ≤ other → CodeAccepted code mask other
+with-room : {code : Code} {mask : List ℕ} {room : ℕ} → CodeAccepted code mask room → (other : ℕ) → 2 ^ code .m ≤ other
+    → CodeAccepted code mask other
 with-room h other long = record {
   some = h .some;
   size = h .size;
@@ -56,7 +80,8 @@ module _ (code : Code) (mask : List ℕ) (all : (i : ℕ) → i < 2 ^ code .m �
   u-all : (message : List ℕ) (i : ℕ) → i < 2 ^ m → uBit mask message i ≡ bitsOf message i
   u-all message i h = rw (all i h, count-all i (omega arith))
 
-  module _ (message old again : List ℕ) (accepted : encodeNumber code mask message (length old) ≡ 0) (room : 2 ^ m ≤ length again) where
+  module _ (message old again : List ℕ) (accepted : encodeNumber code mask message (length old) ≡ 0)
+      (room : 2 ^ m ≤ length again) where
     abbrev first : List ℕ
     first = encodeBlock code mask message old
 
@@ -84,7 +109,8 @@ module _ (code : Code) (mask : List ℕ) (all : (i : ℕ) → i < 2 ^ code .m �
         ap byteOf
         (coded-same m i (uBit mask first) (coded m (uBit mask message)) (λ j l. u-all first j l ∙ read j l)
         ∙ coded-twice m i (uBit mask message) h ∙ u-all message i h)
-        ∙ byte-of-bit (getD message i 0) (bits-at (informationCount mask (2 ^ m)) message (parts .1 .bits) i (rw (count-all (2 ^ m) (omega arith)) h))
+        ∙ byte-of-bit (getD message i 0)
+        (bits-at (informationCount mask (2 ^ m)) message (parts .1 .bits) i (rw (count-all (2 ^ m) (omega arith)) h))
 
     -- the coder, applied to what it wrote, writes the message
     pub encode-twice : encodeBlock code mask first again ≡ overwrite (2 ^ m) (λ i. getD message i 0) again
@@ -92,7 +118,8 @@ module _ (code : Code) (mask : List ℕ) (all : (i : ℕ) → i < 2 ^ code .m �
 
 -- ---- linear: the exclusive-or of two messages codes to that of their blocks
 
-by-kind-xor : (b : ℕ) (x y : Bool) → byKind b (xor x y) false ≡ xor (byKind b x false) (byKind b y false)
+by-kind-xor : (b : ℕ) (x y : Bool)
+    → byKind b (xor x y) (λ bit. bit) ≡ xor (byKind b x (λ bit. bit)) (byKind b y (λ bit. bit))
 by-kind-xor zero x y = refl
 by-kind-xor (suc b) x y = refl
 
@@ -101,15 +128,17 @@ pub encode-linear : (m : ℕ) (mask a b sum : List ℕ) → ((k : ℕ) → bitsO
 encode-linear m mask a b sum h i =
     coded-same m i (uBit mask sum) (λ j. xor (uBit mask a j) (uBit mask b j))
     (λ j l. let k = informationCount mask j in
-    ap (λ (x : Bool). byKind (getD mask j 0) x false) (h k) ∙ by-kind-xor (getD mask j 0) (bitsOf a k) (bitsOf b k))
+    ap (λ (x : Bool). byKind (getD mask j 0) x (λ bit. bit)) (h k)
+    ∙ by-kind-xor (getD mask j 0) (bitsOf a k) (bitsOf b k))
     ∙ coded-xor m i (uBit mask a) (uBit mask b)
 
 -- ---- the read-out of u is the message
 
 module _ (mask message bytes : List ℕ) (n : ℕ) (one : getD bytes n 0 ≡ byteOf (uBit mask message n))
     (before : informationBytes mask bytes n ≡ take (informationCount mask n) message) where
-  one-more : (b : ℕ) → getD mask n 0 ≡ b → MessageAccepted message (informationCount mask n + byKind b 1 0)
-      → informationBytes mask bytes n ++ byKind b (getD bytes n 0 ∷ []) [] ≡ take (informationCount mask n + byKind b 1 0) message
+  one-more : (b : ℕ) → getD mask n 0 ≡ b → MessageAccepted message (informationCount mask n + byKind b 1 (λ bit. 0))
+      → informationBytes mask bytes n ++ byKind b (getD bytes n 0 ∷ []) (λ bit. [])
+      ≡ take (informationCount mask n + byKind b 1 (λ bit. 0)) message
   one-more zero e h =
       let k = informationCount mask n in
       let next : getD bytes n 0 ≡ getD message k 0
@@ -124,12 +153,15 @@ message-less message n b h = record {
   bits = all-bits n message (λ i l. bits-at (n + b) message (h .bits) i (omega arith));
 }
 
-information-back : (mask message bytes : List ℕ) (n : ℕ) → ((i : ℕ) → i < n → getD bytes i 0 ≡ byteOf (uBit mask message i))
-    → MessageAccepted message (informationCount mask n) → informationBytes mask bytes n ≡ take (informationCount mask n) message
+information-back : (mask message bytes : List ℕ) (n : ℕ)
+    → ((i : ℕ) → i < n → getD bytes i 0 ≡ byteOf (uBit mask message i))
+    → MessageAccepted message (informationCount mask n)
+    → informationBytes mask bytes n ≡ take (informationCount mask n) message
 information-back mask message bytes zero is h = refl
 information-back mask message bytes (suc n) is h =
     one-more mask message bytes n (is n (omega arith))
-    (information-back mask message bytes n (λ i l. is i (omega arith)) (message-less message (informationCount mask n) _ h)) (getD mask n 0) refl h
+    (information-back mask message bytes n (λ i l. is i (omega arith))
+    (message-less message (informationCount mask n) _ h)) (getD mask n 0) refl h
 
 module _ (code : Code) (mask message bytes old : List ℕ) (room : ℕ) (accepted : encodeNumber code mask message room ≡ 0)
     (long : 2 ^ code .m ≤ length bytes) (is : (i : ℕ) → i < 2 ^ code .m → getD bytes i 0 ≡ byteOf (uBit mask message i))
@@ -140,9 +172,11 @@ module _ (code : Code) (mask message bytes old : List ℕ) (room : ℕ) (accepte
   pub read-out-accepts : readOutNumber code mask bytes (length old) ≡ 0
   read-out-accepts = rw (code-passes (with-room (encoded .0) (length bytes) long)) (simp (le-leb _ _ fits))
 
-  pub read-out-message : readOutMessage code mask bytes old ≡ overwrite (informationCount mask (2 ^ code .m)) (λ k. getD message k 0) old
+  pub read-out-message : readOutMessage code mask bytes old
+      ≡ overwrite (informationCount mask (2 ^ code .m)) (λ k. getD message k 0) old
   read-out-message =
       let K = informationCount mask (2 ^ code .m) in
       rw read-out-accepts
       (overwrite-same K _ (λ k. getD message k 0) old
-      (λ k l r. ap (λ (x : List ℕ). getD x k 0) (information-back mask message bytes (2 ^ code .m) is (encoded .1)) ∙ getD-take K message k 0 l))
+      (λ k l r. ap (λ (x : List ℕ). getD x k 0) (information-back mask message bytes (2 ^ code .m) is (encoded .1))
+      ∙ getD-take K message k 0 l))

@@ -1,8 +1,9 @@
--- Document 01, "Messages": the columns and the steps between them, here of bits. Column 0 is u, column m is the block sent
--- (`column-coded` of TransformLaws), and the decoder's message for a position of column s stands for the bit there. Definitions only.
+-- Document 01, "Messages": the columns and the steps between them, here of bits. Column 0 is u, column m is the block
+-- sent (`column-coded` of TransformLaws), and the decoder's message for a position of column s stands for the bit
+-- there. Definitions only.
 use Prim.Native.Nat.{ℕ, zero, suc, _+_, _-_, _/_, _%_, _^_}
 use mathlib.Core.Bool.{Bool}
-use Rattle.polar.specs.Code.{xor}
+use Rattle.calls.specs.Bits.{xor}
 
 -- the binary digit of i of weight 2 ^ t
 abbrev pub digit : ℕ → ℕ → ℕ
@@ -14,11 +15,12 @@ module _ {A : Type 0} where
   bySide zero upper lower = upper
   bySide (suc n) upper lower = lower
 
--- one step over the distance d = 2 ^ t: an upper position i takes the exclusive-or with i + d, a lower one keeps its bit
-abbrev pub step : ℕ → (ℕ → Bool) → ℕ → Bool
-step t v i = bySide (digit t i) (xor (v i) (v (i + 2 ^ t))) (v i)
+-- one step over the distance d = 2 ^ t: an upper position i takes the exclusive-or with i + d, a lower one keeps its
+-- bit
+abbrev pub columnStep : ℕ → (ℕ → Bool) → ℕ → Bool
+columnStep t v i = bySide (digit t i) (xor (v i) (v (i + 2 ^ t))) (v i)
 
 -- step s joins columns s and s + 1 over the distance 2 ^ (m - 1 - s)
 abbrev pub column : ℕ → (ℕ → Bool) → ℕ → ℕ → Bool
 column m u zero = u
-column m u (suc s) = step (m - suc s) (column m u s)
+column m u (suc s) = columnStep (m - suc s) (column m u s)

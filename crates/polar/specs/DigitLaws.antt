@@ -2,12 +2,23 @@
 use Prim.Native.Nat.{ℕ, zero, suc, _+_, _-_, _*_, _/_, _%_, _^_, _≤_, _<_}
 use mathlib.Core.Path.{_≡_, refl, sym, ap, ap₂, _∙_, subst}
 use mathlib.Core.Bool.{Bool}
-use native.Mathlib.Nat.{zero-mul, one-mul, suc-mul, add-mul, mul-le-mul-right, div-lt-iff-lt-mul, le-div-iff-mul-le, mod-lt, pow-suc, mul-comm}
+use native.Mathlib.Nat.{
+  zero-mul,
+  one-mul,
+  suc-mul,
+  add-mul,
+  mul-le-mul-right,
+  div-lt-iff-lt-mul,
+  le-div-iff-mul-le,
+  mod-lt,
+  pow-suc,
+  mul-comm,
+}
 use native.Mathlib.Omega.{arith}
 use lib.Bits.{bitAnd, and-high}
 use lib.Pow.{pow-pos, pow-add, high, split, shl-shr}
-use Rattle.polar.specs.Code.{xor}
-use Rattle.polar.specs.Columns.{digit, bySide, step}
+use Rattle.calls.specs.Bits.{xor}
+use Rattle.polar.specs.Columns.{digit, bySide, columnStep}
 
 pub digit-cases : (t i : ℕ) {A : Type 0} → (digit t i ≡ 0 → A) → (digit t i ≡ 1 → A) → A
 digit-cases t i {A} clear set = go (digit t i) refl
@@ -44,9 +55,11 @@ pub multiple-none : (d : ℕ) → Multiple d 0
 multiple-none d = record { times = 0; is = sym (zero-mul d) }
 
 pub multiple-next : {d p : ℕ} → Multiple d p → Multiple d (p + d)
-multiple-next {d} {p} h = record { times = suc (h .times); is = ap (λ (x : ℕ). x + d) (h .is) ∙ sym (suc-mul (h .times) d) }
+multiple-next {d} {p} h =
+    record { times = suc (h .times); is = ap (λ (x : ℕ). x + d) (h .is) ∙ sym (suc-mul (h .times) d) }
 
--- the run of 2 ^ t positions from p on: they share the digit, lie within the block, and so does the run behind an upper one
+-- the run of 2 ^ t positions from p on: they share the digit, lie within the block, and so does the run behind an upper
+-- one
 module _ (t p : ℕ) (h : Multiple (2 ^ t) p) where
   number : p / 2 ^ t ≡ h .times
   number = rw (h .is) (shl-shr (h .times) t)
@@ -62,7 +75,8 @@ module _ (t p : ℕ) (h : Multiple (2 ^ t) p) where
     runs : 2 ^ m ≡ 2 * half * 2 ^ t
     runs =
         let n : m ≡ suc (m - suc t) + t = omega arith in
-        ap (λ (x : ℕ). 2 ^ x) n ∙ pow-add 2 (suc (m - suc t)) t ∙ ap (λ (x : ℕ). x * 2 ^ t) (pow-suc 2 (m - suc t) ∙ mul-comm half 2)
+        ap (λ (x : ℕ). 2 ^ x) n ∙ pow-add 2 (suc (m - suc t)) t
+        ∙ ap (λ (x : ℕ). x * 2 ^ t) (pow-suc 2 (m - suc t) ∙ mul-comm half 2)
 
     before : h .times < 2 * half
     before = rw number at (div-lt-iff-lt-mul (pow-pos t) .1 (subst (λ (n : ℕ). p < n) runs hp))
@@ -87,8 +101,9 @@ partner-lt m t i ht hi z =
     omega (arith, upper-fits t p h m ht (omega arith) upper)
 
 -- a step of a block reads that block alone
-pub step-same : (m t i : ℕ) (v w : ℕ → Bool) → t < m → i < 2 ^ m → ((j : ℕ) → j < 2 ^ m → v j ≡ w j) → step t v i ≡ step t w i
-step-same m t i v w ht hi same =
+pub column-step-same : (m t i : ℕ) (v w : ℕ → Bool) → t < m → i < 2 ^ m → ((j : ℕ) → j < 2 ^ m → v j ≡ w j)
+    → columnStep t v i ≡ columnStep t w i
+column-step-same m t i v w ht hi same =
     digit-cases t i
     (λ z. rw z (ap₂ xor (same i hi) (same (i + 2 ^ t) (partner-lt m t i ht hi z))))
     (λ o. rw o (same i hi))

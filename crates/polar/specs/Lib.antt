@@ -1,6 +1,8 @@
+pub mod Mask
+pub mod MaskLaws
 pub mod Code
 pub mod Columns
-pub mod BitLaws
+pub mod ParityLaws
 pub mod TransformLaws
 pub mod CodeLaws
 pub mod DigitLaws

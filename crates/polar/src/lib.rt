@@ -1,16 +1,35 @@
-// The polar code: a message becomes a block of N = 2^m coded bits, and bytes at the information positions are read out again.
-// It sees `calls` alone. It promises document 01's closed form for every coded bit, and the number and the exact condition of each refusal.
+// The polar code: a message becomes a block of N = 2^m coded bits, and bytes at the information positions are read out
+// again. It sees `calls` alone. It promises document 01's closed form for every coded bit, and the number and the exact
+// condition of each refusal.
 ghost use mathlib.Core.Path.{_≡_};
-ghost use Prim.Native.Nat.{_+_, _<_, _≤_, _^_, max};
+ghost use Prim.Native.Nat.{ℕ, _+_, _<_, _≤_, _^_, max};
+ghost use lib.Dec.{leb};
 ghost use lib.ListN.{length, getD};
+ghost use Rattle.calls.specs.Every.{every};
+ghost use Rattle.calls.specs.Bounds.{largestM};
 ghost use Rattle.calls.specs.Numbers.{numberOf};
 ghost use Rattle.calls.specs.Memory.{overwrite, overwriteFrom};
-ghost use Rattle.polar.specs.Code.{byteOf, informationCount, uBit, coded, informationBytes, areBits, codeNumber, messageNumber, encodeNumber, encodeBlock, readOutNumber, readOutMessage};
-ghost use Rattle.polar.specs.Columns.{step};
+ghost use Rattle.calls.specs.Bits.{byteOf};
+ghost use Rattle.polar.specs.Mask.{isMaskByte, isInformation, frozenBit, maskAccepted};
+ghost use Rattle.polar.specs.Code.{
+  informationCount,
+  uBit,
+  coded,
+  informationBytes,
+  areBits,
+  codeNumber,
+  messageNumber,
+  encodeNumber,
+  encodeBlock,
+  readOutNumber,
+  readOutMessage,
+};
+ghost use Rattle.polar.specs.Columns.{columnStep};
 ghost use Rattle.polar.specs.CodeLaws.{MessageAccepted};
 ghost use Rattle.polar.specs.BlockLaws.{bitsOf, Bits};
 ghost use lib.Bits.{bitXor};
 use calls::Answer;
+use calls::LARGEST_M;
 use calls::Refusal;
 
 // The settings of a code. Coder and read-out take them by value, so that a later setting joins them here.
@@ -18,10 +37,11 @@ pub struct Code {
     pub m: u32,
 }
 
-// N from m, and a distance from the digit that it stands for. Offered to the crates above, which have tested m. The shift is of 32 bits and
-// widened afterwards: of `p < 1 << m` at one width LLVM makes `p >> m == 0`, no longer sees how often a loop runs, and does not vectorise it.
+// N from m, and a distance from the digit that it stands for. Offered to the crates above, which have tested m. The
+// shift is of 32 bits and widened afterwards: of `p < 1 << m` at one width LLVM makes `p >> m == 0`, no longer sees how
+// often a loop runs, and does not vectorise it.
 pub fn power_of_two(k: u32) -> usize
-    requires { ⌜ k ≤ 10 ⌝ }
+    requires { ⌜ k ≤ largestM ⌝ }
     ensures { λ r. ⌜ r ≡ 2 ^ k ⌝ }
 {
     (1u32 << k) as usize
@@ -33,10 +53,10 @@ fn larger(a: u8, b: u8) -> u8
     if a < b { b } else { a }
 }
 
-// Whether the first n bytes are 0 or 1. It keeps their maximum, which needs no branch.
-fn are_bits(bytes: &[u8], n: usize) -> bool
+// The largest of the first n bytes, 0 of none: it is at most b where each of them is. It needs no branch.
+fn largest(bytes: &[u8], n: usize) -> u8
     requires { ⌜ n ≤ length (now bytes) ⌝ }
-    ensures { λ r. ⌜ r ≡ areBits n (now (bytes .entry)) ⌝ }
+    ensures { λ r. ⌜ ((b : ℕ) → leb r b ≡ every n (λ i. leb (getD (now (bytes .entry)) i 0) b)) ⌝ }
 {
     let mut most = 0;
     let mut i = 0;
@@ -44,7 +64,44 @@ fn are_bits(bytes: &[u8], n: usize) -> bool
         most = larger(most, bytes[i]);
         i += 1;
     }
-    most <= 1
+    most
+}
+
+// Whether the first n bytes are 0 or 1.
+fn are_bits(bytes: &[u8], n: usize) -> bool
+    requires { ⌜ n ≤ length (now bytes) ⌝ }
+    ensures { λ r. ⌜ r ≡ areBits n (now (bytes .entry)) ⌝ }
+{
+    largest(bytes, n) <= 1
+}
+
+// What a byte of the mask means is asked here alone: whether it may stand in a mask, whether it marks an information
+// position, and which bit a frozen position carries, 0 whatever its byte.
+fn is_mask_byte(kind: u8) -> bool
+    ensures { λ r. ⌜ r ≡ isMaskByte kind ⌝ }
+{
+    kind <= 1
+}
+
+pub fn is_information(kind: u8) -> bool
+    ensures { λ r. ⌜ r ≡ isInformation kind ⌝ }
+{
+    kind == 0
+}
+
+fn frozen_bit(kind: u8) -> u8
+    ensures { λ r. ⌜ r ≡ byteOf (frozenBit kind) ⌝ }
+{
+    0
+}
+
+// Whether the first n bytes are a mask's. A byte that is at most the largest one may stand in a mask where that one
+// may.
+fn mask_accepted(mask: &[u8], n: usize) -> bool
+    requires { ⌜ n ≤ length (now mask) ⌝ }
+    ensures { λ r. ⌜ r ≡ maskAccepted n (now (mask .entry)) ⌝ }
+{
+    is_mask_byte(largest(mask, n))
 }
 
 // How many of the first n positions are information positions.
@@ -55,7 +112,7 @@ fn information_count(mask: &[u8], n: usize) -> usize
     let mut count = 0;
     let mut i = 0;
     while i < n {
-        if mask[i] == 0 {
+        if is_information(mask[i]) {
             count += 1;
         }
         i += 1;
@@ -71,7 +128,7 @@ pub fn code_refusal(code: Code, mask: &[u8], room: usize) -> Answer
     if m < 1 {
         return Answer::Refused(Refusal::BlockLength);
     }
-    if 10 < m {
+    if LARGEST_M < m {
         return Answer::Refused(Refusal::BlockLength);
     }
     let n = power_of_two(m);
@@ -81,7 +138,7 @@ pub fn code_refusal(code: Code, mask: &[u8], room: usize) -> Answer
     if room < n {
         return Answer::Refused(Refusal::ShortSlice);
     }
-    if !are_bits(mask, n) {
+    if !mask_accepted(mask, n) {
         return Answer::Refused(Refusal::MaskValue);
     }
     if information_count(mask, n) == 0 {
@@ -116,20 +173,21 @@ fn encode_refusal(code: Code, mask: &[u8], message: &[u8], room: usize) -> Answe
     }
 }
 
-// u: the message bits in the information positions of the first n elements, 0 in the frozen ones.
+// u: the message bits in the information positions of the first n elements, the frozen bits in the others.
 fn place(mask: &[u8], message: &[u8], n: usize, block: &mut [u8])
     requires { ⌜ (n ≤ length (now mask)) × (n ≤ length (now block)) ⌝ }
     requires { ⌜ MessageAccepted (now message) (informationCount (now mask) n) ⌝ }
-    ensures { λ _. ⌜ now (block .exit) ≡ overwrite n (λ i. byteOf (uBit (now (mask .entry)) (now (message .entry)) i)) (now (block .entry)) ⌝ }
+    ensures { λ _. ⌜ now (block .exit)
+        ≡ overwrite n (λ i. byteOf (uBit (now (mask .entry)) (now (message .entry)) i)) (now (block .entry)) ⌝ }
 {
     let mut used = 0;
     let mut i = 0;
     while i < n {
-        if mask[i] == 0 {
+        if is_information(mask[i]) {
             block[i] = message[used];
             used += 1;
         } else {
-            block[i] = 0;
+            block[i] = frozen_bit(mask[i]);
         }
         i += 1;
     }
@@ -138,7 +196,10 @@ fn place(mask: &[u8], message: &[u8], n: usize, block: &mut [u8])
 // The run of d positions from p on takes the exclusive-or with the run of d behind it.
 fn join(block: &mut [u8], p: usize, d: usize)
     requires { ⌜ p + d + d ≤ length (now block) ⌝ }
-    ensures { λ _. ⌜ now (block .exit) ≡ overwriteFrom p d (λ i. bitXor (getD (now (block .entry)) (p + i) 0) (getD (now (block .entry)) (p + d + i) 0)) (now (block .entry)) ⌝ }
+    ensures { λ _. ⌜ now (block .exit)
+        ≡ overwriteFrom p d
+        (λ i. bitXor (getD (now (block .entry)) (p + i) 0) (getD (now (block .entry)) (p + d + i) 0))
+        (now (block .entry)) ⌝ }
 {
     let mut i = 0;
     while i < d {
@@ -149,9 +210,10 @@ fn join(block: &mut [u8], p: usize, d: usize)
 
 // One step, over the distance d = 2^t. The positions go in runs of d, and the mask test chooses the upper ones.
 fn butterflies(block: &mut [u8], m: u32, t: u32)
-    requires { ⌜ (m ≤ 10) × (t < m) ⌝ }
+    requires { ⌜ (m ≤ largestM) × (t < m) ⌝ }
     requires { ⌜ Bits (2 ^ m) (now block) ⌝ }
-    ensures { λ _. ⌜ now (block .exit) ≡ overwrite (2 ^ m) (λ i. byteOf (step t (bitsOf (now (block .entry))) i)) (now (block .entry)) ⌝ }
+    ensures { λ _. ⌜ now (block .exit)
+        ≡ overwrite (2 ^ m) (λ i. byteOf (columnStep t (bitsOf (now (block .entry))) i)) (now (block .entry)) ⌝ }
 {
     let n = power_of_two(m);
     let d = power_of_two(t);
@@ -167,9 +229,10 @@ fn butterflies(block: &mut [u8], m: u32, t: u32)
 // The coded bits of the first 2^m elements, in place: m steps, from the distance 2^(m-1) down to 1.
 // It is offered to the crates above, which lend it bits.
 pub fn transform(block: &mut [u8], m: u32)
-    requires { ⌜ m ≤ 10 ⌝ }
+    requires { ⌜ m ≤ largestM ⌝ }
     requires { ⌜ Bits (2 ^ m) (now block) ⌝ }
-    ensures { λ _. ⌜ now (block .exit) ≡ overwrite (2 ^ m) (λ i. byteOf (coded m (bitsOf (now (block .entry))) i)) (now (block .entry)) ⌝ }
+    ensures { λ _. ⌜ now (block .exit)
+        ≡ overwrite (2 ^ m) (λ i. byteOf (coded m (bitsOf (now (block .entry))) i)) (now (block .entry)) ⌝ }
 {
     let mut s = 0;
     while s < m {
@@ -180,8 +243,10 @@ pub fn transform(block: &mut [u8], m: u32)
 
 // The message, coded, in the first 2^m elements of the block.
 pub fn encode(code: Code, mask: &[u8], message: &[u8], block: &mut [u8]) -> Answer
-    ensures { λ r. ⌜ numberOf r ≡ encodeNumber code (now (mask .entry)) (now (message .entry)) (length (now (block .entry))) ⌝ }
-    ensures { λ r. ⌜ now (block .exit) ≡ encodeBlock code (now (mask .entry)) (now (message .entry)) (now (block .entry)) ⌝ }
+    ensures { λ r. ⌜ numberOf r
+        ≡ encodeNumber code (now (mask .entry)) (now (message .entry)) (length (now (block .entry))) ⌝ }
+    ensures { λ r. ⌜ now (block .exit)
+        ≡ encodeBlock code (now (mask .entry)) (now (message .entry)) (now (block .entry)) ⌝ }
 {
     match encode_refusal(code, mask, message, block.len()) {
         Answer::Refused(refusal) => Answer::Refused(refusal),
@@ -213,13 +278,16 @@ fn read_out_refusal(code: Code, mask: &[u8], bytes: &[u8], room: usize) -> Answe
 
 // The bytes at the information positions of the first n, one behind the other.
 fn gather(mask: &[u8], bytes: &[u8], n: usize, message: &mut [u8])
-    requires { ⌜ (n ≤ length (now mask)) × (n ≤ length (now bytes)) × (informationCount (now mask) n ≤ length (now message)) ⌝ }
-    ensures { λ _. ⌜ now (message .exit) ≡ overwrite (informationCount (now (mask .entry)) n) (λ k. getD (informationBytes (now (mask .entry)) (now (bytes .entry)) n) k 0) (now (message .entry)) ⌝ }
+    requires { ⌜ (n ≤ length (now mask)) × (n ≤ length (now bytes))
+        × (informationCount (now mask) n ≤ length (now message)) ⌝ }
+    ensures { λ _. ⌜ now (message .exit)
+        ≡ overwrite (informationCount (now (mask .entry)) n)
+        (λ k. getD (informationBytes (now (mask .entry)) (now (bytes .entry)) n) k 0) (now (message .entry)) ⌝ }
 {
     let mut count = 0;
     let mut i = 0;
     while i < n {
-        if mask[i] == 0 {
+        if is_information(mask[i]) {
             message[count] = bytes[i];
             count += 1;
         }
@@ -229,8 +297,10 @@ fn gather(mask: &[u8], bytes: &[u8], n: usize, message: &mut [u8])
 
 // The bytes at the information positions, in rising order, in the first K elements of the message.
 pub fn read_out(code: Code, mask: &[u8], bytes: &[u8], message: &mut [u8]) -> Answer
-    ensures { λ r. ⌜ numberOf r ≡ readOutNumber code (now (mask .entry)) (now (bytes .entry)) (length (now (message .entry))) ⌝ }
-    ensures { λ r. ⌜ now (message .exit) ≡ readOutMessage code (now (mask .entry)) (now (bytes .entry)) (now (message .entry)) ⌝ }
+    ensures { λ r. ⌜ numberOf r
+        ≡ readOutNumber code (now (mask .entry)) (now (bytes .entry)) (length (now (message .entry))) ⌝ }
+    ensures { λ r. ⌜ now (message .exit)
+        ≡ readOutMessage code (now (mask .entry)) (now (bytes .entry)) (now (message .entry)) ⌝ }
 {
     match read_out_refusal(code, mask, bytes, message.len()) {
         Answer::Refused(refusal) => Answer::Refused(refusal),

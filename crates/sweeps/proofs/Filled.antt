@@ -12,18 +12,27 @@ use lib.IntN.{ℤ, pos, natAbs}
 use lib.ListN.{length, set}
 use lib.Pow.{pow-pos, pow-lt, pow-mono}
 use borrow.Author.Tests.{eq-eqb, ne-eqb}
+use Rattle.calls.specs.Bounds.{largestM}
 use Rattle.calls.specs.Memory.{overwriteFrom}
-use Rattle.calls.specs.MemoryLaws.{length-overwriteFrom, overwriteFrom-none, overwriteFrom-before, overwriteFrom-behind, overwriteFrom-store}
+use Rattle.calls.specs.MemoryLaws.{
+  length-overwriteFrom,
+  overwriteFrom-none,
+  overwriteFrom-before,
+  overwriteFrom-behind,
+  overwriteFrom-store,
+  overwriteFrom-more,
+}
 use Rattle.polar.specs.DigitLaws.{digit-cases, masked, weight-le, partner-lt}
 use Rattle.message.specs.declared.MinSum.{MinSum}
 use Rattle.message.specs.Message.{add, f}
 use Rattle.sweeps.specs.Workspace.{row, setRow, workspaceLength}
-use Rattle.sweeps.specs.WorkspaceLaws.{row-lt, overwriteFrom-more}
-use Rattle.sweeps.specs.IterationLaws.{Ready, ready-written, joined-size}
-use Rattle.sweeps.specs.Working.{messageAt, newAt, Readable, joinedAt, rowPart, rowStep, Rows}
+use Rattle.sweeps.specs.WorkspaceLaws.{row-lt}
+use Rattle.sweeps.specs.IterationLaws.{WorkspaceValid, valid-written, joined-size}
+use Rattle.sweeps.specs.Private.{messageAt, newAt, Readable, joinedAt, rowPart, rowStep, Rows}
 
 -- elements of row k are written, and row j is another one
-pub row-apart : (m k j a n i : ℕ) (g : ℕ → ℤ) (w : List ℤ) → (k ≡ j → ⊥) → k * 2 ^ m ≤ a → a + n ≤ k * 2 ^ m + 2 ^ m → i < 2 ^ m
+pub row-apart : (m k j a n i : ℕ) (g : ℕ → ℤ) (w : List ℤ) → (k ≡ j → ⊥) → k * 2 ^ m ≤ a → a + n ≤ k * 2 ^ m + 2 ^ m
+    → i < 2 ^ m
     → row m (overwriteFrom a n g w) j i ≡ row m w j i
 row-apart m k j a n i g w ne low high hi = go (decLt j k)
   where
@@ -31,7 +40,8 @@ row-apart m k j a n i g w ne low high hi = go (decLt j k)
     go (yes l) = overwriteFrom-before a n g w (j * 2 ^ m + i) (pos 0) (lt-of-lt-of-le (digits-lt l hi) low)
     go (no l) =
         let behind : suc k ≤ j = omega (arith, ne) in
-        overwriteFrom-behind a n g w (j * 2 ^ m + i) (pos 0) (omega (arith, suc-mul k (2 ^ m), mul-le-mul-right (2 ^ m) behind))
+        overwriteFrom-behind a n g w (j * 2 ^ m + i) (pos 0)
+        (omega (arith, suc-mul k (2 ^ m), mul-le-mul-right (2 ^ m) behind))
 
 -- the formula reads rows x and y within the block, so it gives the same while row k is written
 pub joined-kept : (rule : MinSum) {m t k x y : ℕ} (old w : List ℤ) → Rows m t k x y
@@ -62,46 +72,53 @@ pub record Filled (rule : MinSum) (m t k x y p : ℕ) (old w : List ℤ) : Type 
   pub is : w ≡ overwriteFrom (k * 2 ^ m) p (joinedAt rule t (row m old x) (row m old y)) old
 
 pub filled-none : {rule : MinSum} {m t k x y : ℕ} {old : List ℤ} → Filled rule m t k x y 0 old old
-filled-none {rule} {m} {t} {k} {x} {y} {old} = record { is = sym (overwriteFrom-none (k * 2 ^ m) (joinedAt rule t (row m old x) (row m old y)) old) }
+filled-none {rule} {m} {t} {k} {x} {y} {old} =
+    record { is = sym (overwriteFrom-none (k * 2 ^ m) (joinedAt rule t (row m old x) (row m old y)) old) }
 
 module _ {rule : MinSum} {m t k x y p : ℕ} {old w : List ℤ} (h : Filled rule m t k x y p old w) where
   pub filled-length : length w ≡ length old
   filled-length = ap length (h .is) ∙ simp length-overwriteFrom
 
-  pub filled-ready : Ready rule m old → Ready rule m w
-  filled-ready ready =
+  pub filled-valid : WorkspaceValid rule m old → WorkspaceValid rule m w
+  filled-valid valid =
       rw (h .is)
-      (ready-written ready (k * 2 ^ m) p (joinedAt rule t (row m old x) (row m old y))
-      (λ i l. joined-size rule t (row m old x) (row m old y) i (ready .tested .scale-le)))
+      (valid-written valid (k * 2 ^ m) p (joinedAt rule t (row m old x) (row m old y))
+      (λ i l. joined-size rule t (row m old x) (row m old y) i (valid .in-range .scale-le)))
 
   -- the row that is written has the place
-  pub in-row : Ready rule m old → Rows m t k x y → p < 2 ^ m → k * 2 ^ m + p < length old
-  in-row ready rows hp = omega (arith, row-lt m k p (rows .written) hp, ready .room)
+  pub in-row : WorkspaceValid rule m old → Rows m t k x y → p < 2 ^ m → k * 2 ^ m + p < length old
+  in-row valid rows hp = omega (arith, row-lt m k p (rows .written) hp, valid .room)
 
   -- the formula still gives what it gave at the start
   filled-joined : Rows m t k x y → p ≤ 2 ^ m → (q : ℕ) → q < 2 ^ m
       → joinedAt rule t (row m w x) (row m w y) q ≡ joinedAt rule t (row m old x) (row m old y) q
   filled-joined rows fits =
-      joined-kept rule old w rows (λ j i ne l. rw (h .is) (row-apart m k j (k * 2 ^ m) p i (joinedAt rule t (row m old x) (row m old y)) old ne (le-refl (k * 2 ^ m)) (omega arith) l))
+      joined-kept rule old w rows
+      (λ j i ne l. rw (h .is)
+      (row-apart m k j (k * 2 ^ m) p i (joinedAt rule t (row m old x) (row m old y)) old ne (le-refl (k * 2 ^ m))
+      (omega arith) l))
 
   -- one message more, and a part of the row more
-  pub filled-next : Ready rule m old → Rows m t k x y → p < 2 ^ m → {v : ℤ} → v ≡ newAt rule (2 ^ t) (x * 2 ^ m) (y * 2 ^ m) w p
+  pub filled-next : WorkspaceValid rule m old → Rows m t k x y → p < 2 ^ m → {v : ℤ}
+      → v ≡ newAt rule (2 ^ t) (x * 2 ^ m) (y * 2 ^ m) w p
       → Filled rule m t k x y (p + 1) old (set w (k * 2 ^ m + p) v)
-  filled-next ready rows hp {v} e =
+  filled-next valid rows hp {v} e =
       let g = joinedAt rule t (row m old x) (row m old y) in
       let one : 2 ^ t ≤ 1 * 2 ^ m = rw one-mul (pow-mono {i = t} {j = m} (omega (arith, rows .distance))) in
       let hx : 2 ^ t ≤ x * 2 ^ m = omega (arith, mul-le-mul-right (2 ^ m) (rows .first .0)) in
       let hy : 2 ^ t ≤ y * 2 ^ m = omega (arith, mul-le-mul-right (2 ^ m) (rows .second .0)) in
       let same : v ≡ g p = e ∙ new-joined rule m t x y w p hx hy ∙ filled-joined rows (omega arith) p hp in
-      record { is = rw (same, h .is, add-one p) (overwriteFrom-store (k * 2 ^ m) p g old (in-row ready rows hp)) }
+      record { is = rw (same, h .is, add-one p) (overwriteFrom-store (k * 2 ^ m) p g old (in-row valid rows hp)) }
 
-  pub filled-part : Rows m t k x y → (n : ℕ) → p + n ≤ 2 ^ m → {v : List ℤ} → v ≡ rowPart rule m t k x y p n w → Filled rule m t k x y (p + n) old v
+  pub filled-part : Rows m t k x y → (n : ℕ) → p + n ≤ 2 ^ m → {v : List ℤ} → v ≡ rowPart rule m t k x y p n w
+      → Filled rule m t k x y (p + n) old v
   unfolding rowPart
   filled-part rows n fits e =
       let g = joinedAt rule t (row m old x) (row m old y) in
       record {
         is = e ∙ ap (overwriteFrom (k * 2 ^ m + p) n (λ i. joinedAt rule t (row m w x) (row m w y) (p + i))) (h .is)
-            ∙ overwriteFrom-more (k * 2 ^ m) p n _ g old (λ i l. filled-joined rows (omega arith) (p + i) (omega arith));
+            ∙ overwriteFrom-more (k * 2 ^ m) p n _ g old
+            (λ i l. filled-joined rows (omega arith) (p + i) (omega arith));
       }
 
   pub filled-all : p ≡ 2 ^ m → w ≡ rowStep rule m t k x y old
@@ -109,7 +126,8 @@ module _ {rule : MinSum} {m t k x y p : ℕ} {old w : List ℤ} (h : Filled rule
   filled-all e = rw e at (h .is)
 
 -- what a step reads lies in the workspace: the rows that it reads have rows on both sides
-module _ {rule : MinSum} {m t k x y p : ℕ} {w : List ℤ} (ready : Ready rule m w) (rows : Rows m t k x y) (hp : p < 2 ^ m) where
+module _ {rule : MinSum} {m t k x y p : ℕ} {w : List ℤ} (valid : WorkspaceValid rule m w) (rows : Rows m t k x y)
+    (hp : p < 2 ^ m) where
   distance : 2 ^ t < 2 ^ m
   distance = pow-lt {i = t} {j = m} (rows .distance)
 
@@ -120,24 +138,30 @@ module _ {rule : MinSum} {m t k x y p : ℕ} {w : List ℤ} (ready : Ready rule 
 
     in-work : j * 2 ^ m + (p + 2 ^ t) < workspaceLength m
     in-work =
-        omega (arith, distance, suc-mul (suc j) (2 ^ m), suc-mul j (2 ^ m), mul-le-mul-right {m = suc (suc j)} {n = 2 * (m + 1)} (2 ^ m) (omega arith))
+        omega (
+          arith,
+          distance,
+          suc-mul (suc j) (2 ^ m),
+          suc-mul j (2 ^ m),
+          mul-le-mul-right {m = suc (suc j)} {n = 2 * (m + 1)} (2 ^ m) (omega arith),
+        )
 
     small-after : natAbs (messageAt w (j * 2 ^ m + (p + 2 ^ t))) ≤ rule .ceiling
-    small-after = ready .within _ in-work
+    small-after = valid .within _ in-work
 
     small-own : natAbs (messageAt w (j * 2 ^ m + p)) ≤ rule .ceiling
-    small-own = ready .within _ (omega (arith, in-work))
+    small-own = valid .within _ (omega (arith, in-work))
 
     small-before : natAbs (messageAt w (j * 2 ^ m - 2 ^ t + p)) ≤ rule .ceiling
-    small-before = ready .within _ (omega (arith, in-work))
+    small-before = valid .within _ (omega (arith, in-work))
 
   pub readable : Readable (rule .ceiling) p (2 ^ t) (x * 2 ^ m) (y * 2 ^ m) w
   readable = record {
-    small = omega (arith, distance, pow-mono {i = m} {j = 10} (ready .size));
+    small = omega (arith, distance, pow-mono {i = m} {j = largestM} (valid .size));
     before = (ahead x (rows .first .0) (rows .first .1), ahead y (rows .second .0) (rows .second .1));
     after = (
-      omega (arith, in-work x (rows .first .0) (rows .first .1), ready .room),
-      omega (arith, in-work y (rows .second .0) (rows .second .1), ready .room),
+      omega (arith, in-work x (rows .first .0) (rows .first .1), valid .room),
+      omega (arith, in-work y (rows .second .0) (rows .second .1), valid .room),
     );
     own = small-own x (rows .first .0) (rows .first .1);
     y-own = small-own y (rows .second .0) (rows .second .1);

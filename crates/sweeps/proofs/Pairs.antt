@@ -9,14 +9,20 @@ use lib.IntN.{ℤ, natAbs}
 use lib.ListN.{length, set}
 use lib.Pow.{pow-pos, shl-shr}
 use Rattle.calls.specs.Memory.{overwriteFrom}
-use Rattle.calls.specs.MemoryLaws.{length-overwriteFrom, overwriteFrom-none, overwriteFrom-store}
+use Rattle.calls.specs.MemoryLaws.{
+  length-overwriteFrom,
+  overwriteFrom-none,
+  overwriteFrom-store,
+  overwriteFrom-more,
+  set-before,
+}
 use Rattle.polar.specs.Columns.{digit, bySide}
 use Rattle.polar.specs.DigitLaws.{Multiple, multiple-none, multiple-next, digit-cases, run-digit, run-fits, upper-fits}
 use Rattle.message.specs.declared.MinSum.{MinSum}
 use Rattle.sweeps.specs.Workspace.{row}
-use Rattle.sweeps.specs.WorkspaceLaws.{row-lt, overwriteFrom-more, set-before}
-use Rattle.sweeps.specs.IterationLaws.{Ready, ready-written, joined-size}
-use Rattle.sweeps.specs.Working.{upperAt, lowerAt, Readable, joinedAt, rowPart, rowStep, Rows, UpperRun}
+use Rattle.sweeps.specs.WorkspaceLaws.{row-lt}
+use Rattle.sweeps.specs.IterationLaws.{WorkspaceValid, valid-written, joined-size}
+use Rattle.sweeps.specs.Private.{upperAt, lowerAt, Readable, joinedAt, rowPart, rowStep, Rows, UpperRun}
 use Rattle.sweeps.proofs.Filled.{row-apart, joined-kept, Filled, filled-none, filled-part, filled-all, readable}
 
 -- ---- two runs of d elements, the first from a on, filled side by side: i elements of each are those of g
@@ -25,7 +31,10 @@ pub record Paired (a d i : ℕ) (g : ℕ → ℤ) (old w : List ℤ) : Type 0 wh
 
 pub paired-none : {a d : ℕ} {g : ℕ → ℤ} {old : List ℤ} → Paired a d 0 g old old
 paired-none {a} {d} {g} {old} =
-    record { is = sym (overwriteFrom-none (a + d) (λ j. g (d + j)) (overwriteFrom a 0 g old) ∙ overwriteFrom-none a g old) }
+    record {
+      is = sym (overwriteFrom-none (a + d) (λ j. g (d + j)) (overwriteFrom a 0 g old)
+          ∙ overwriteFrom-none a g old);
+    }
 
 module _ {a d i : ℕ} {g : ℕ → ℤ} {old w : List ℤ} (h : Paired a d i g old w) where
   pub paired-length : length w ≡ length old
@@ -40,7 +49,8 @@ module _ {a d i : ℕ} {g : ℕ → ℤ} {old w : List ℤ} (h : Paired a d i g 
         is = rw (eu, ev, h .is, add-one i)
             (ap (λ (z : List ℤ). set z (a + d + i) (low i)) (set-before (a + d) i low first (a + i) (g i) (omega arith))
             ∙ rw (overwriteFrom-store a i g old (omega arith))
-            (overwriteFrom-store (a + d) i low (overwriteFrom a (suc i) g old) (rw length-overwriteFrom (omega arith))));
+            (overwriteFrom-store (a + d) i low (overwriteFrom a (suc i) g old)
+            (rw length-overwriteFrom (omega arith))));
       }
 
   pub paired-all : i ≡ d → w ≡ overwriteFrom a (d + d) g old
@@ -76,7 +86,8 @@ lower-joined : (rule : MinSum) (m t x y : ℕ) (w : List ℤ) (p q : ℕ) → q 
 lower-joined rule m t x y w p q e o = let back : q - 2 ^ t ≡ p = omega arith in rw (o, back, e)
 
 -- n and d are N and the distance, as the code has them
-module _ {rule : MinSum} {m t k x y p n d : ℕ} {old : List ℤ} (en : n ≡ 2 ^ m) (ed : d ≡ 2 ^ t) (ready : Ready rule m old) (rows : Rows m t k x y)
+module _ {rule : MinSum} {m t k x y p n d : ℕ} {old : List ℤ} (en : n ≡ 2 ^ m) (ed : d ≡ 2 ^ t)
+    (valid : WorkspaceValid rule m old) (rows : Rows m t k x y)
     (run : UpperRun m t p) where
   abbrev g : ℕ → ℤ
   g = newFrom rule m t x y p old
@@ -86,18 +97,28 @@ module _ {rule : MinSum} {m t k x y p n d : ℕ} {old : List ℤ} (en : n ≡ 2 
   fit = upper-fits t p (run .whole) m (rows .distance) (run .inside) (run .upper)
 
   pub runs-room : k * n + p + d + d ≤ length old
-  runs-room = rw (en, ed) (omega (arith, pow-pos t, row-lt m k (p + 2 ^ t + 2 ^ t - 1) (rows .written) (omega (arith, fit, pow-pos t)), ready .room))
+  runs-room =
+      rw (en, ed)
+      (omega (
+        arith,
+        pow-pos t,
+        row-lt m k (p + 2 ^ t + 2 ^ t - 1) (rows .written) (omega (arith, fit, pow-pos t)),
+        valid .room,
+      ))
 
-  module _ {i : ℕ} {w : List ℤ} (l : i < 2 ^ t) (h : Paired (k * 2 ^ m + p) (2 ^ t) i (newFrom rule m t x y p old) old w) where
+  module _ {i : ℕ} {w : List ℤ} (l : i < 2 ^ t)
+      (h : Paired (k * 2 ^ m + p) (2 ^ t) i (newFrom rule m t x y p old) old w) where
     small : (j : ℕ) → natAbs (g j) ≤ rule .ceiling
-    small j = joined-size rule t (row m old x) (row m old y) (p + j) (ready .tested .scale-le)
+    small j = joined-size rule t (row m old x) (row m old y) (p + j) (valid .in-range .scale-le)
 
     pub runs-readable : Readable (rule .ceiling) (p + i) d (x * n) (y * n) w
     runs-readable =
         let low : ℕ → ℤ = λ j. g (2 ^ t + j) in
         let a = k * 2 ^ m + p in
         rw (en, ed, h .is)
-        (readable (ready-written (ready-written ready a i g (λ j q. small j)) (a + 2 ^ t) i low (λ j q. small (2 ^ t + j))) rows (omega (arith, fit)))
+        (readable
+        (valid-written (valid-written valid a i g (λ j q. small j)) (a + 2 ^ t) i low (λ j q. small (2 ^ t + j))) rows
+        (omega (arith, fit)))
 
     kept : (j q : ℕ) → (k ≡ j → ⊥) → q < 2 ^ m → row m w j q ≡ row m old j q
     kept j q ne hq =
@@ -106,7 +127,8 @@ module _ {rule : MinSum} {m t k x y p n d : ℕ} {old : List ℤ} (en : n ≡ 2 
         (row-apart m k j (a + 2 ^ t) i q _ (overwriteFrom a i g old) ne (omega arith) (omega (arith, fit)) hq
         ∙ row-apart m k j a i q g old ne (omega arith) (omega (arith, fit)) hq)
 
-    pub runs-next : {u v : ℤ} → u ≡ upperAt rule d (x * n) (y * n) w (p + i) → v ≡ lowerAt rule d (x * n) (y * n) w (p + i)
+    pub runs-next : {u v : ℤ} → u ≡ upperAt rule d (x * n) (y * n) w (p + i)
+        → v ≡ lowerAt rule d (x * n) (y * n) w (p + i)
         → Paired (k * 2 ^ m + p) (2 ^ t) (i + 1) g old (set (set w (k * n + p + i) u) (k * n + p + d + i) v)
     runs-next eu ev =
         let upper : digit t (p + i) ≡ 0 = run-digit t p (run .whole) i l ∙ run .upper in
@@ -114,11 +136,13 @@ module _ {rule : MinSum} {m t k x y p n d : ℕ} {old : List ℤ} (en : n ≡ 2 
         ∙ run-digit t (p + 2 ^ t) (multiple-next (run .whole)) i l ∙ after-upper t p (run .whole) (run .upper) in
         rw (en, ed)
         (paired-next h (rw (en, ed) at runs-room) l
-        ((rw (en, ed) at eu) ∙ upper-joined rule m t x y w (p + i) upper ∙ joined-kept rule old w rows kept (p + i) (omega (arith, fit)))
+        ((rw (en, ed) at eu) ∙ upper-joined rule m t x y w (p + i) upper
+        ∙ joined-kept rule old w rows kept (p + i) (omega (arith, fit)))
         ((rw (en, ed) at ev) ∙ lower-joined rule m t x y w (p + i) (p + (2 ^ t + i)) (omega arith) lower
         ∙ joined-kept rule old w rows kept (p + (2 ^ t + i)) (omega (arith, fit))))
 
-pub runs-all : (rule : MinSum) (m t k x y p : ℕ) (old : List ℤ) {i : ℕ} {w : List ℤ} → Paired (k * 2 ^ m + p) (2 ^ t) i (newFrom rule m t x y p old) old w → i ≡ 2 ^ t
+pub runs-all : (rule : MinSum) (m t k x y p : ℕ) (old : List ℤ) {i : ℕ} {w : List ℤ}
+    → Paired (k * 2 ^ m + p) (2 ^ t) i (newFrom rule m t x y p old) old w → i ≡ 2 ^ t
     → w ≡ rowPart rule m t k x y p (2 ^ t + 2 ^ t) old
 unfolding rowPart
 runs-all rule m t k x y p old h e = paired-all h e
@@ -144,14 +168,17 @@ module _ {rule : MinSum} {m t k x y p : ℕ} {old w : List ℤ} (h : FilledRuns 
     pub run-end : p + d ≤ 2 ^ m
     run-end = rw ed (run-fits t p (h .whole) m (rows .distance) hp)
 
-    pub runs-upper : digit t p ≡ 0 → {v : List ℤ} → v ≡ rowPart rule m t k x y p (2 ^ t + 2 ^ t) w → FilledRuns rule m t k x y (p + d) old v
+    pub runs-upper : digit t p ≡ 0 → {v : List ℤ} → v ≡ rowPart rule m t k x y p (2 ^ t + 2 ^ t) w
+        → FilledRuns rule m t k x y (p + d) old v
     runs-upper z e =
         let next = after-upper t p (h .whole) z in
         let fit = upper-fits t p (h .whole) m (rows .distance) hp z in
         rw ed record {
           whole = multiple-next (h .whole);
           fits = rw next fit;
-          filled = rw (next, add-assoc p (2 ^ t) (2 ^ t)) (filled-part (rw z at (h .filled)) rows (2 ^ t + 2 ^ t) (omega arith) e);
+          filled =
+              rw (next, add-assoc p (2 ^ t) (2 ^ t))
+              (filled-part (rw z at (h .filled)) rows (2 ^ t + 2 ^ t) (omega arith) e);
         }
 
     pub runs-lower : digit t p ≡ 1 → FilledRuns rule m t k x y (p + d) old w
@@ -164,4 +191,5 @@ module _ {rule : MinSum} {m t k x y p : ℕ} {old w : List ℤ} (h : FilledRuns 
         }
 
   pub runs-done : p ≡ 2 ^ m → w ≡ rowStep rule m t k x y old
-  runs-done e = filled-all (h .filled) (digit-cases t p (λ z. rw z e) (λ o. absurd (omega (arith, pow-pos t, rw o at (h .fits)))))
+  runs-done e =
+      filled-all (h .filled) (digit-cases t p (λ z. rw z e) (λ o. absurd (omega (arith, pow-pos t, rw o at (h .fits)))))

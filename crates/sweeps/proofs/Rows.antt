@@ -1,19 +1,21 @@
 -- One turn of a loop that writes a whole row.
 use Prim.Native.Nat.{ℕ, zero, suc, _+_, _*_, _^_, _≤_, _<_}
 use mathlib.Core.Path.{_≡_, refl, sym, ap, _∙_}
-use mathlib.Core.Bool.{cond}
+use mathlib.Core.Bool.{Bool, true, false, cond}
 use mathlib.Core.List.{List}
 use native.Mathlib.Numerals.{add-one}
 use native.Mathlib.Omega.{arith}
-use lib.Dec.{eqb, eqb·suc-zero}
 use lib.IntN.{ℤ, pos}
 use lib.ListN.{length, set}
 use mir.Facts.{toZ-pos}
 use mir.Syntax.{w16}
 use mir.Val.{toZ}
+use Rattle.calls.specs.Bounds.{largestCeiling}
 use Rattle.calls.specs.Memory.{overwriteFrom}
 use Rattle.calls.specs.MemoryLaws.{length-overwriteFrom, overwriteFrom-none, overwriteFrom-store}
-use Rattle.polar.specs.Code.{byKind}
+use Rattle.calls.specs.Signs.{flipped}
+use Rattle.polar.specs.Mask.{byKind, isInformation}
+use Rattle.polar.specs.MaskLaws.{kind-information, kind-frozen, frozen-bit-zero}
 use Rattle.sweeps.specs.Workspace.{setRow, workspaceLength}
 use Rattle.sweeps.specs.WorkspaceLaws.{row-lt}
 
@@ -28,9 +30,13 @@ module _ {m k i : ℕ} {g : ℕ → ℤ} {old w : List ℤ} (h : RowPart m k i g
   pub row-length : length w ≡ length old
   row-length = ap length (h .is) ∙ simp length-overwriteFrom
 
-  pub row-next : workspaceLength m ≤ length old → k < 2 * (m + 1) → i < 2 ^ m → {v : ℤ} → v ≡ g i → RowPart m k (i + 1) g old (set w (k * 2 ^ m + i) v)
+  pub row-next : workspaceLength m ≤ length old → k < 2 * (m + 1) → i < 2 ^ m → {v : ℤ} → v ≡ g i
+      → RowPart m k (i + 1) g old (set w (k * 2 ^ m + i) v)
   row-next room hk hi e =
-      record { is = rw (e, h .is, add-one i) (overwriteFrom-store (k * 2 ^ m) i g old (omega (arith, row-lt m k i hk hi))) }
+      record {
+        is = rw (e, h .is, add-one i)
+            (overwriteFrom-store (k * 2 ^ m) i g old (omega (arith, row-lt m k i hk hi)));
+      }
 
   pub row-all : i ≡ 2 ^ m → w ≡ setRow m k g old
   unfolding setRow
@@ -41,6 +47,13 @@ pub place : (m k i n room : ℕ) → n ≡ 2 ^ m → k < 2 * (m + 1) → i < 2 ^
 place m k i n room e hk hi h = rw e (omega (arith, row-lt m k i hk hi))
 
 -- the prior of a mask byte, as the code takes it
-pub prior-is : (C b : ℕ) → C ≤ 2047 → cond (eqb b 0) (pos 0) (toZ w16 C) ≡ byKind b (pos 0) (pos C)
-prior-is C zero h = refl
-prior-is C (suc b) h = rw (eqb·suc-zero b) (toZ-pos w16 {n = C} (omega arith))
+pub prior-is : (C byte : ℕ) → C ≤ largestCeiling
+    → cond (isInformation byte) (pos 0) (toZ w16 C) ≡ byKind byte (pos 0) (λ bit. flipped bit (pos C))
+prior-is C byte h = go (isInformation byte) refl
+  where
+    go : (b : Bool) → isInformation byte ≡ b
+        → cond b (pos 0) (toZ w16 C) ≡ byKind byte (pos 0) (λ bit. flipped bit (pos C))
+    go true e = sym (kind-information (pos 0) (λ bit. flipped bit (pos C)) byte e)
+    go false e =
+        toZ-pos w16 {n = C} (omega arith)
+        ∙ sym (kind-frozen (pos 0) (λ bit. flipped bit (pos C)) byte e ∙ rw (frozen-bit-zero byte))

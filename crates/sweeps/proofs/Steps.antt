@@ -8,7 +8,7 @@ use lib.IntN.{ℤ}
 use Rattle.message.specs.declared.MinSum.{MinSum}
 use Rattle.sweeps.specs.Iteration.{leftStep, rightStep, leftSteps, rightSteps}
 use Rattle.sweeps.specs.IterationLaws.{left-joined, right-joined}
-use Rattle.sweeps.specs.Working.{rowStep, Rows}
+use Rattle.sweeps.specs.Private.{rowStep, Rows}
 
 module _ (m t : ℕ) (h : t < m) where
   pub left-rows : Rows m t (m - 1 - t) (m - 1 - t + 1) (m + 1 + (m - 1 - t))
@@ -30,14 +30,18 @@ module _ (m t : ℕ) (h : t < m) where
   }
 
   module _ (rule : MinSum) (old w y : List ℤ) where
-    pub left-next : w ≡ leftSteps rule m t old → y ≡ rowStep rule m t (m - 1 - t) (m - 1 - t + 1) (m + 1 + (m - 1 - t)) w
+    pub left-next : w ≡ leftSteps rule m t old
+        → y ≡ rowStep rule m t (m - 1 - t) (m - 1 - t + 1) (m + 1 + (m - 1 - t)) w
         → y ≡ leftSteps rule m (t + 1) old
     left-next before is =
         let s : m - 1 - t ≡ m - suc t = omega arith in
         let d : m - suc (m - suc t) ≡ t = omega arith in
-        is ∙ rw (add-one t, s, before, add-one (m - suc t)) (sym (left-joined rule m (m - suc t) (leftSteps rule m t old) ∙ rw d))
+        is
+        ∙ rw (add-one t, s, before, add-one (m - suc t))
+        (sym (left-joined rule m (m - suc t) (leftSteps rule m t old) ∙ rw d))
 
-    pub right-next : w ≡ rightSteps rule m t old → y ≡ rowStep rule m (m - 1 - t) (m + 1 + (t + 1)) (m + 1 + t) (t + 1) w
+    pub right-next : w ≡ rightSteps rule m t old
+        → y ≡ rowStep rule m (m - 1 - t) (m + 1 + (t + 1)) (m + 1 + t) (t + 1) w
         → y ≡ rightSteps rule m (t + 1) old
     right-next before is =
         let s : m - 1 - t ≡ m - suc t = omega arith in

@@ -4,15 +4,16 @@ use mathlib.Core.List.{List}
 use lib.IntN.{ℤ, pos}
 use lib.ListN.{getD}
 use Rattle.calls.specs.Memory.{overwrite}
-use Rattle.polar.specs.Code.{byKind}
+use Rattle.calls.specs.Signs.{flipped}
+use Rattle.polar.specs.Mask.{byKind}
 use Rattle.polar.specs.Columns.{digit, bySide}
 use Rattle.message.specs.declared.MinSum.{MinSum}
 use Rattle.message.specs.Message.{add, f}
 use Rattle.sweeps.specs.Workspace.{L, R, setL, setR, workspaceLength}
 
 module _ (rule : MinSum) where
-  -- step s joins columns s and s + 1 over the distance d = 2 ^ t. l is column s + 1 of L and r is column s of R; an upper position i
-  -- has its partner at i + d, a lower position j at j - d
+  -- step s joins columns s and s + 1 over the distance d = 2 ^ t. l is column s + 1 of L and r is column s of R; an
+  -- upper position i has its partner at i + d, a lower position j at j - d
   abbrev pub leftAt : ℕ → (ℕ → ℤ) → (ℕ → ℤ) → ℕ → ℤ
   leftAt t l r p =
       let d = 2 ^ t in
@@ -52,9 +53,9 @@ module _ (rule : MinSum) where
     iterations zero w = w
     iterations (suc t) w = iteration (iterations t w)
 
--- column 0 of R at the start: C where frozen and 0 elsewhere
+-- column 0 of R at the start: C with the sign of the frozen bit where frozen, and 0 elsewhere
 abbrev pub prior : ℕ → List ℕ → ℕ → ℤ
-prior C mask i = byKind (getD mask i 0) (pos 0) (pos C)
+prior C mask i = byKind (getD mask i 0) (pos 0) (λ bit. flipped bit (pos C))
 
 -- the start: column m of L holds the LLRs, column 0 of R the prior, and all else is 0
 unfoldable pub start : ℕ → ℕ → List ℕ → List ℤ → List ℤ → List ℤ

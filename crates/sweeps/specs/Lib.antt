@@ -1,5 +1,5 @@
 pub mod Workspace
 pub mod Iteration
 pub mod WorkspaceLaws
-pub mod Working
+pub mod Private
 pub mod IterationLaws

@@ -1,5 +1,5 @@
--- Document 01, "Messages" and "Endings": the columns of L and R in the workspace. L(s, i) stands at s * N + i and R(s, i) at
--- (m + 1) * N + s * N + i, so column s of L is row s and column s of R is row m + 1 + s. Definitions only.
+-- Document 01, "Messages" and "Endings": the columns of L and R in the workspace. L(s, i) stands at s * N + i and R(s,
+-- i) at (m + 1) * N + s * N + i, so column s of L is row s and column s of R is row m + 1 + s. Definitions only.
 use Prim.Native.Nat.{ℕ, _+_, _*_, _^_}
 use mathlib.Core.List.{List}
 use lib.IntN.{ℤ, pos}

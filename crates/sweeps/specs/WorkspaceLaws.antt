@@ -1,19 +1,19 @@
 -- Laws of the workspace's rows: what a row holds after it, or another one, is written.
-use Prim.Native.Nat.{ℕ, zero, suc, _+_, _*_, _^_, _≤_, _<_}
-use mathlib.Core.Path.{_≡_, refl, sym, ap, _∙_}
-use mathlib.Core.List.{List, [], _∷_}
-use native.Mathlib.Nat.{zero-add, suc-add, suc-mul, mul-le-mul-right, le-of-suc-le-suc, not-suc-le-zero}
+use Prim.Native.Nat.{ℕ, _+_, _*_, _^_, _≤_, _<_}
+use mathlib.Core.Path.{_≡_}
+use mathlib.Core.List.{List}
+use native.Mathlib.Nat.{suc-mul, mul-le-mul-right}
 use native.Mathlib.Omega.{arith}
 use lib.Arith.{digits-lt}
-use lib.IntN.{ℤ, pos, natAbs}
-use lib.ListN.{length, getD, set}
+use lib.IntN.{ℤ, pos}
+use lib.ListN.{length}
 use Rattle.calls.specs.Memory.{overwriteFrom}
-use Rattle.calls.specs.MemoryLaws.{length-overwriteFrom, overwrite-more, overwriteFrom-at, overwriteFrom-before, overwriteFrom-behind}
+use Rattle.calls.specs.MemoryLaws.{length-overwriteFrom, overwriteFrom-at, overwriteFrom-before, overwriteFrom-behind}
 use Rattle.sweeps.specs.Workspace.{row, setRow, workspaceLength}
 
 -- the workspace lies in the list
-abbrev pub Room : ℕ → List ℤ → Type 0
-Room m w = workspaceLength m ≤ length w
+abbrev pub WorkspaceFits : ℕ → List ℤ → Type 0
+WorkspaceFits m w = workspaceLength m ≤ length w
 
 -- an element of a row lies in the workspace
 pub row-lt : (m k i : ℕ) → k < 2 * (m + 1) → i < 2 ^ m → k * 2 ^ m + i < workspaceLength m
@@ -22,20 +22,6 @@ row-lt m k i hk hi = digits-lt hk hi
 pub length-setRow : (m k : ℕ) (g : ℕ → ℤ) (w : List ℤ) → length (setRow m k g w) ≡ length w
 unfolding setRow
 length-setRow m k g w = length-overwriteFrom (k * 2 ^ m) (2 ^ m) g w
-
--- k elements more, behind n that are written from element a on; and a store before what is written
-module _ {A : Type 0} where
-  pub overwriteFrom-more : (a n k : ℕ) (f g : ℕ → A) (l : List A) → ((i : ℕ) → i < k → f i ≡ g (n + i))
-      → overwriteFrom (a + n) k f (overwriteFrom a n g l) ≡ overwriteFrom a (n + k) g l
-  overwriteFrom-more zero n k f g l h = rw zero-add (overwrite-more n k f g l h)
-  overwriteFrom-more (suc a) n k f g [] h = rw suc-add
-  overwriteFrom-more (suc a) n k f g (x ∷ l) h = rw suc-add (ap (λ (r : List A). x ∷ r) (overwriteFrom-more a n k f g l h))
-
-  pub set-before : (a n : ℕ) (g : ℕ → A) (l : List A) (j : ℕ) (v : A) → j < a → set (overwriteFrom a n g l) j v ≡ overwriteFrom a n g (set l j v)
-  set-before zero n g l j v h = absurd (not-suc-le-zero h)
-  set-before (suc a) n g [] j v h = refl
-  set-before (suc a) n g (x ∷ l) zero v h = refl
-  set-before (suc a) n g (x ∷ l) (suc j) v h = ap (λ (r : List A). x ∷ r) (set-before a n g l j v (le-of-suc-le-suc h))
 
 -- the first n elements of row k are new: an element of them, and one of any other row
 module _ (m k n : ℕ) (g : ℕ → ℤ) (w : List ℤ) (hn : n ≤ 2 ^ m) where
@@ -47,10 +33,11 @@ module _ (m k n : ℕ) (g : ℕ → ℤ) (w : List ℤ) (hn : n ≤ 2 ^ m) where
 
   pub part-below : (j i : ℕ) → k < j → row m (overwriteFrom (k * 2 ^ m) n g w) j i ≡ row m w j i
   part-below j i hj =
-      overwriteFrom-behind (k * 2 ^ m) n g w (j * 2 ^ m + i) (pos 0) (omega (arith, suc-mul k (2 ^ m), mul-le-mul-right (2 ^ m) hj))
+      overwriteFrom-behind (k * 2 ^ m) n g w (j * 2 ^ m + i) (pos 0)
+      (omega (arith, suc-mul k (2 ^ m), mul-le-mul-right (2 ^ m) hj))
 
 module _ (m k : ℕ) (g : ℕ → ℤ) (w : List ℤ) where
-  pub row-own : (i : ℕ) → Room m w → k < 2 * (m + 1) → i < 2 ^ m → row m (setRow m k g w) k i ≡ g i
+  pub row-own : (i : ℕ) → WorkspaceFits m w → k < 2 * (m + 1) → i < 2 ^ m → row m (setRow m k g w) k i ≡ g i
   unfolding setRow
   row-own i room hk hi = part-own m k (2 ^ m) g w (omega arith) i hi (omega (arith, row-lt m k i hk hi))
 

@@ -1,6 +1,7 @@
-// The workspace and the sweeps: the start, and one iteration of message passing over the columns of L and R.
-// It sees `message` and `polar`, and no criterion. It promises that the workspace at exit is document 01's function of the workspace at entry,
-// the rest of the slice untouched. Its functions are offered to the crate above, which has tested settings, mask and LLRs.
+// The workspace and the sweeps: the start, and one iteration of message passing over the columns of L and R. It sees
+// `message` and `polar`, and no criterion. It promises that the workspace at exit is document 01's function of the
+// workspace at entry, the rest of the slice untouched. Its functions are offered to the crate above, which has tested
+// settings, mask and LLRs.
 ghost use mathlib.Core.Path.{_≡_};
 ghost use mathlib.Core.Bool.{cond};
 ghost use Prim.Native.Nat.{_+_, _*_, _<_, _≤_, _^_};
@@ -8,13 +9,24 @@ ghost use lib.Bits.{bitAnd};
 ghost use lib.Dec.{eqb};
 ghost use lib.IntN.{pos, natAbs};
 ghost use lib.ListN.{length, getD};
+ghost use Rattle.calls.specs.Bounds.{largestM, largestCeiling};
 ghost use Rattle.calls.specs.Memory.{overwrite};
 ghost use Rattle.message.specs.Message.{add, f};
-ghost use Rattle.message.specs.MessageLaws.{Tested};
+ghost use Rattle.message.specs.MessageLaws.{RuleInRange};
 ghost use Rattle.sweeps.specs.Workspace.{setL, setR, workspaceLength};
 ghost use Rattle.sweeps.specs.Iteration.{leftSteps, rightSteps, iteration, prior, start};
-ghost use Rattle.sweeps.specs.Working.{messageAt, newAt, upperAt, lowerAt, Readable, Rows, rowPart, rowStep, UpperRun};
-ghost use Rattle.sweeps.specs.IterationLaws.{Ready};
+ghost use Rattle.sweeps.specs.Private.{
+  messageAt,
+  newAt,
+  upperAt,
+  lowerAt,
+  Readable,
+  Rows,
+  rowPart,
+  rowStep,
+  UpperRun,
+};
+ghost use Rattle.sweeps.specs.IterationLaws.{WorkspaceValid};
 use message::MinSum;
 
 // The message at position i of the row that starts at `at`.
@@ -39,7 +51,8 @@ fn pick(upper: bool, a: i16, b: i16) -> i16
     if upper { a } else { b }
 }
 
-// The new message of a position, upper or lower, without a branch: of both its formulas, f is taken once, of the values that belong to it.
+// The new message of a position, upper or lower, without a branch: of both its formulas, f is taken once, of the values
+// that belong to it.
 fn combine(
     rule: MinSum,
     upper: bool,
@@ -49,19 +62,21 @@ fn combine(
     x_before: i16,
     y_before: i16,
 ) -> i16
-    requires { ⌜ Tested rule ⌝ }
-    requires { ⌜ (natAbs own ≤ rule .ceiling) × (natAbs «x_after» ≤ rule .ceiling) × (natAbs «y_after» ≤ rule .ceiling) × (natAbs «x_before» ≤ rule .ceiling) × (natAbs «y_before» ≤ rule .ceiling) ⌝ }
-    ensures { λ r. ⌜ r ≡ cond upper (f rule own (add rule «x_after» «y_after»)) (add rule (f rule «x_before» «y_before») own) ⌝ }
+    requires { ⌜ RuleInRange rule ⌝ }
+    requires { ⌜ (natAbs own ≤ rule .ceiling) × (natAbs «x_after» ≤ rule .ceiling) × (natAbs «y_after» ≤ rule .ceiling)
+        × (natAbs «x_before» ≤ rule .ceiling) × (natAbs «y_before» ≤ rule .ceiling) ⌝ }
+    ensures { λ r. ⌜ r ≡ cond upper (f rule own (add rule «x_after» «y_after»))
+        (add rule (f rule «x_before» «y_before») own) ⌝ }
 {
     let sum = message::add_cut(rule, x_after, y_after);
     let part = message::min_sum(rule, pick(upper, own, x_before), pick(upper, sum, y_before));
     message::add_cut(rule, part, pick(upper, 0, own))
 }
 
-// The new message at position p of a step over the distance d, from the rows that start at x and y. It reads both candidates of the
-// partner, also where one of them lies beside its row, and drops the one that is not meant.
+// The new message at position p of a step over the distance d, from the rows that start at x and y. It reads both
+// candidates of the partner, also where one of them lies beside its row, and drops the one that is not meant.
 fn new_message(rule: MinSum, work: &[i16], p: usize, d: u16, x: usize, y: usize) -> i16
-    requires { ⌜ Tested rule ⌝ }
+    requires { ⌜ RuleInRange rule ⌝ }
     requires { ⌜ Readable (rule .ceiling) p d x y (now work) ⌝ }
     ensures { λ r. ⌜ r ≡ newAt rule d x y (now (work .entry)) p ⌝ }
 {
@@ -79,7 +94,7 @@ fn new_message(rule: MinSum, work: &[i16], p: usize, d: u16, x: usize, y: usize)
 
 // A step position by position, by one formula for both sides.
 fn by_positions(rule: MinSum, m: u32, t: u32, k: usize, x: usize, y: usize, work: &mut [i16])
-    requires { ⌜ Ready rule m (now work) ⌝ }
+    requires { ⌜ WorkspaceValid rule m (now work) ⌝ }
     requires { ⌜ Rows m t k x y ⌝ }
     ensures { λ _. ⌜ now (work .exit) ≡ rowStep rule m t k x y (now (work .entry)) ⌝ }
 {
@@ -95,7 +110,7 @@ fn by_positions(rule: MinSum, m: u32, t: u32, k: usize, x: usize, y: usize, work
 
 // The new message of an upper position p, from the rows that start at x and y.
 fn upper_message(rule: MinSum, work: &[i16], p: usize, d: usize, x: usize, y: usize) -> i16
-    requires { ⌜ Tested rule ⌝ }
+    requires { ⌜ RuleInRange rule ⌝ }
     requires { ⌜ Readable (rule .ceiling) p d x y (now work) ⌝ }
     ensures { λ r. ⌜ r ≡ upperAt rule d x y (now (work .entry)) p ⌝ }
 {
@@ -105,7 +120,7 @@ fn upper_message(rule: MinSum, work: &[i16], p: usize, d: usize, x: usize, y: us
 
 // The new message of its partner, the lower position p + d.
 fn lower_message(rule: MinSum, work: &[i16], p: usize, d: usize, x: usize, y: usize) -> i16
-    requires { ⌜ Tested rule ⌝ }
+    requires { ⌜ RuleInRange rule ⌝ }
     requires { ⌜ Readable (rule .ceiling) p d x y (now work) ⌝ }
     ensures { λ r. ⌜ r ≡ lowerAt rule d x y (now (work .entry)) p ⌝ }
 {
@@ -113,10 +128,10 @@ fn lower_message(rule: MinSum, work: &[i16], p: usize, d: usize, x: usize, y: us
     message::add_cut(rule, part, get(work, x, p + d))
 }
 
-// The new messages of the 2^t upper positions from p on and of their partners, pair by pair. The loop has no test in it and reads no position
-// beside the two runs.
+// The new messages of the 2^t upper positions from p on and of their partners, pair by pair. The loop has no test in it
+// and reads no position beside the two runs.
 fn join_runs(rule: MinSum, m: u32, t: u32, k: usize, x: usize, y: usize, p: usize, work: &mut [i16])
-    requires { ⌜ Ready rule m (now work) ⌝ }
+    requires { ⌜ WorkspaceValid rule m (now work) ⌝ }
     requires { ⌜ Rows m t k x y ⌝ }
     requires { ⌜ UpperRun m t p ⌝ }
     ensures { λ _. ⌜ now (work .exit) ≡ rowPart rule m t k x y p (2 ^ t + 2 ^ t) (now (work .entry)) ⌝ }
@@ -138,9 +153,10 @@ fn join_runs(rule: MinSum, m: u32, t: u32, k: usize, x: usize, y: usize, p: usiz
     }
 }
 
-// A step in runs of 2^t positions: the mask test chooses the upper runs, and each is joined with the lower one behind it.
+// A step in runs of 2^t positions: the mask test chooses the upper runs, and each is joined with the lower one behind
+// it.
 fn by_pairs(rule: MinSum, m: u32, t: u32, k: usize, x: usize, y: usize, work: &mut [i16])
-    requires { ⌜ Ready rule m (now work) ⌝ }
+    requires { ⌜ WorkspaceValid rule m (now work) ⌝ }
     requires { ⌜ Rows m t k x y ⌝ }
     ensures { λ _. ⌜ now (work .exit) ≡ rowStep rule m t k x y (now (work .entry)) ⌝ }
 {
@@ -155,10 +171,10 @@ fn by_pairs(rule: MinSum, m: u32, t: u32, k: usize, x: usize, y: usize, work: &m
     }
 }
 
-// One step over the distance 2^t: row k from rows x and y. Runs of fewer than eight messages do not fill a vector register; they are slower
-// than the loop over positions.
-fn step(rule: MinSum, m: u32, t: u32, k: usize, x: usize, y: usize, work: &mut [i16])
-    requires { ⌜ Ready rule m (now work) ⌝ }
+// One step over the distance 2^t: row k from rows x and y. Runs of fewer than eight messages do not fill a vector
+// register; they are slower than the loop over positions.
+fn row_step(rule: MinSum, m: u32, t: u32, k: usize, x: usize, y: usize, work: &mut [i16])
+    requires { ⌜ WorkspaceValid rule m (now work) ⌝ }
     requires { ⌜ Rows m t k x y ⌝ }
     ensures { λ _. ⌜ now (work .exit) ≡ rowStep rule m t k x y (now (work .entry)) ⌝ }
 {
@@ -171,28 +187,28 @@ fn step(rule: MinSum, m: u32, t: u32, k: usize, x: usize, y: usize, work: &mut [
 
 // L by steps m - 1 down to 0.
 fn left_sweep(rule: MinSum, m: u32, work: &mut [i16])
-    requires { ⌜ Ready rule m (now work) ⌝ }
+    requires { ⌜ WorkspaceValid rule m (now work) ⌝ }
     ensures { λ _. ⌜ now (work .exit) ≡ leftSteps rule m m (now (work .entry)) ⌝ }
 {
     let columns = m as usize;
     let mut t = 0;
     while t < m {
         let s = (m - 1 - t) as usize;
-        step(rule, m, t, s, s + 1, columns + 1 + s, work);
+        row_step(rule, m, t, s, s + 1, columns + 1 + s, work);
         t += 1;
     }
 }
 
 // R by steps 0 up to m - 1.
 fn right_sweep(rule: MinSum, m: u32, work: &mut [i16])
-    requires { ⌜ Ready rule m (now work) ⌝ }
+    requires { ⌜ WorkspaceValid rule m (now work) ⌝ }
     ensures { λ _. ⌜ now (work .exit) ≡ rightSteps rule m m (now (work .entry)) ⌝ }
 {
     let columns = m as usize;
     let mut t = 0;
     while t < m {
         let s = t as usize;
-        step(
+        row_step(
             rule,
             m,
             m - 1 - t,
@@ -207,7 +223,7 @@ fn right_sweep(rule: MinSum, m: u32, work: &mut [i16])
 
 // One iteration.
 pub fn iterate(rule: MinSum, m: u32, work: &mut [i16])
-    requires { ⌜ Ready rule m (now work) ⌝ }
+    requires { ⌜ WorkspaceValid rule m (now work) ⌝ }
     ensures { λ _. ⌜ now (work .exit) ≡ iteration rule m (now (work .entry)) ⌝ }
 {
     left_sweep(rule, m, work);
@@ -226,9 +242,10 @@ fn clear(work: &mut [i16], n: usize)
     }
 }
 
-// Column 0 of R: the ceiling where frozen, 0 elsewhere.
+// Column 0 of R: the ceiling where frozen, since every frozen bit is 0, and 0 elsewhere.
 fn set_prior(m: u32, ceiling: u16, mask: &[u8], work: &mut [i16])
-    requires { ⌜ (m ≤ 10) × (ceiling ≤ 2047) × (2 ^ m ≤ length (now mask)) × (workspaceLength m ≤ length (now work)) ⌝ }
+    requires { ⌜ (m ≤ largestM) × (ceiling ≤ largestCeiling) × (2 ^ m ≤ length (now mask))
+        × (workspaceLength m ≤ length (now work)) ⌝ }
     ensures { λ _. ⌜ now (work .exit) ≡ setR m 0 (prior ceiling (now (mask .entry))) (now (work .entry)) ⌝ }
 {
     let n = polar::power_of_two(m);
@@ -236,14 +253,14 @@ fn set_prior(m: u32, ceiling: u16, mask: &[u8], work: &mut [i16])
     let top = ceiling as i16;
     let mut i = 0;
     while i < n {
-        work[at + i] = pick(mask[i] == 0, 0, top);
+        work[at + i] = pick(polar::is_information(mask[i]), 0, top);
         i += 1;
     }
 }
 
 // Column m of L: the LLRs.
 fn set_llr(m: u32, llr: &[i16], work: &mut [i16])
-    requires { ⌜ (m ≤ 10) × (2 ^ m ≤ length (now llr)) × (workspaceLength m ≤ length (now work)) ⌝ }
+    requires { ⌜ (m ≤ largestM) × (2 ^ m ≤ length (now llr)) × (workspaceLength m ≤ length (now work)) ⌝ }
     ensures { λ _. ⌜ now (work .exit) ≡ setL m m (λ i. getD (now (llr .entry)) i (pos 0)) (now (work .entry)) ⌝ }
 {
     let n = polar::power_of_two(m);
@@ -257,8 +274,10 @@ fn set_llr(m: u32, llr: &[i16], work: &mut [i16])
 
 // The start.
 pub fn begin(rule: MinSum, m: u32, mask: &[u8], llr: &[i16], work: &mut [i16])
-    requires { ⌜ (m ≤ 10) × (rule .ceiling ≤ 2047) × (2 ^ m ≤ length (now mask)) × (2 ^ m ≤ length (now llr)) × (workspaceLength m ≤ length (now work)) ⌝ }
-    ensures { λ _. ⌜ now (work .exit) ≡ start m (rule .ceiling) (now (mask .entry)) (now (llr .entry)) (now (work .entry)) ⌝ }
+    requires { ⌜ (m ≤ largestM) × (rule .ceiling ≤ largestCeiling) × (2 ^ m ≤ length (now mask))
+        × (2 ^ m ≤ length (now llr)) × (workspaceLength m ≤ length (now work)) ⌝ }
+    ensures { λ _. ⌜ now (work .exit)
+        ≡ start m (rule .ceiling) (now (mask .entry)) (now (llr .entry)) (now (work .entry)) ⌝ }
 {
     let ceiling = rule.ceiling;
     let n = polar::power_of_two(m);

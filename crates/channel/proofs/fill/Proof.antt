@@ -4,15 +4,15 @@ use mathlib.Core.Bool.{false}
 use native.Mathlib.Omega.{arith}
 use denote.Ref.{now}
 use lib.Dec.{T}
-use lib.IntN.{ℤ, pos}
-use lib.Signed.{mag}
+use lib.IntN.{ℤ, pos, natAbs}
 use lib.Ieee.{fin}
 use mir.Syntax.{w16}
 use mir.Val.{toZ, ofZ}
 use mir.Facts.{toZ-ofZ, toZ-pos}
 use borrow.Author.Needs.{needs}
+use Rattle.calls.specs.Bounds.{largestCeiling}
 use Rattle.channel.specs.Front.{quantised, isUsable}
-use Rattle.channel.specs.FrontLaws.{quantised-mag}
+use Rattle.channel.specs.FrontLaws.{quantised-bound}
 use Rattle.channel.proofs.Samples.{above-zero-number}
 use Rattle.channel.proofs.Signs.{filled-by-sign, ceiling-kept}
 use Rattle.channel.proofs.fill.Statement.{statement}
@@ -46,8 +46,10 @@ quantise-requires c κs =
 fill-signs-requires : tie.Need-fill-signs-requires
 fill-signs-requires c κs =
     let start = c .before .before .before .before .before .before in
-    let bound = quantised-mag (start .args .ceiling) (c .before .before .before .channel2 .given .0 .0) in
-    (subst (λ (z : ℤ). mag z ≤ 2047) (sym (weight-held (c .before))) (omega (arith, bound)), start .pre .1 .1 .0)
+    let bound = quantised-bound (start .args .ceiling) (c .before .before .before .channel2 .given .0 .0) in (
+      subst (λ (z : ℤ). natAbs z ≤ largestCeiling) (sym (weight-held (c .before))) (omega (arith, bound)),
+      start .pre .1 .1 .0,
+    )
 
 enum-told : tie.Need-enum-told
 enum-told c = search needs
@@ -76,7 +78,8 @@ returns-2 c =
     let a = start .args in
     rw (weight .1)
     (c .before .fill-signs .ensures
-    ∙ filled-by-sign (a .n) (a .ceiling) (now (a .samples)) (now (a .llr)) (weight .0 .0) _ (weight-held (c .before .before .before)))
+    ∙ filled-by-sign (a .n) (a .ceiling) (now (a .samples)) (now (a .llr)) (weight .0 .0) _
+    (weight-held (c .before .before .before)))
 
 same-length-3 : tie.Need-same-length-3
 same-length-3 c = search needs

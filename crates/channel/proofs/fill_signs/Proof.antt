@@ -12,12 +12,13 @@ use mir.Facts.{toZ-ofZ}
 use borrow.Author.Needs.{needs}
 use Rattle.calls.specs.Memory.{overwrite}
 use Rattle.calls.specs.MemoryLaws.{length-overwrite, overwrite-store}
-use Rattle.channel.specs.Working.{bySign}
+use Rattle.channel.specs.Private.{bySign}
 use Rattle.channel.proofs.fill_signs.Statement.{statement}
 use Rattle.channel.proofs.fill_signs.Tie as tie
 
 abbrev Inv-loop : tie.InvT-loop
-Inv-loop size n samples llr₀ i₀ llr i = (i ≤ n) × (llr ≡ overwrite i (λ k. bySign (getD samples k nan) (toZ w16 size)) llr₀)
+Inv-loop size n samples llr₀ i₀ llr i =
+    (i ≤ n) × (llr ≡ overwrite i (λ k. bySign (getD samples k nan) (toZ w16 size)) llr₀)
 
 abbrev μ-loop : tie.MeasureT-loop
 μ-loop size n samples llr₀ i₀ llr i = n - i

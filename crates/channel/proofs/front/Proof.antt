@@ -19,13 +19,16 @@ abbrev number : tie.Start → ℕ
 number c = let a = c .args in frontNumber (a .m) (a .ceiling) (a .channel) (now (a .samples)) (length (now (a .llr)))
 
 abbrev new : tie.Start → List ℤ
-new c = let a = c .args in overwrite (2 ^ a .m) (λ i. llrOf (a .ceiling) (a .channel) (getD (now (a .samples)) i nan)) (now (a .llr))
+new c =
+    let a = c .args in
+    overwrite (2 ^ a .m) (λ i. llrOf (a .ceiling) (a .channel) (getD (now (a .samples)) i nan)) (now (a .llr))
 
 -- where the answer is `Done`, and where it is a refusal
 done : (c : tie.After-enum-told) → number (c .before .before .before .before) ≡ 0
 done c = sym (c .before .before .refusal .ensures) ∙ ap numberOf (c .enum-told .given .1)
 
-refused : (c : tie.After-enum-told2) → number (c .before .before .before .before) ≡ refusalNumber (c .enum-told2 .given .0 .0)
+refused : (c : tie.After-enum-told2)
+    → number (c .before .before .before .before) ≡ refusalNumber (c .enum-told2 .given .0 .0)
 refused c = sym (c .before .before .refusal .ensures) ∙ ap numberOf (c .enum-told2 .given .1)
 
 passed : (c : tie.After-enum-told) → let a = c .before .before .before .before .args in
@@ -44,7 +47,8 @@ shl-fill c = omega (arith, passed c .block)
 fill-requires : tie.Need-fill-requires
 fill-requires c κs =
     let p = passed (c .before) in
-    rw (block-width (c .before .before .before .before .before .args .m) (p .block .1)) (p .usable, (p .ceiling, (p .slices, p .finite)))
+    rw (block-width (c .before .before .before .before .before .args .m) (p .block .1))
+    (p .usable, (p .ceiling, (p .slices, p .finite)))
 
 enum-told-2 : tie.Need-enum-told-2
 enum-told-2 c = search needs
@@ -55,13 +59,17 @@ same-length c = search needs
 returns : tie.Need-returns
 returns c =
     let here = c .before .before .before in
-    let m = here .before .before .before .before .args .m in
-    (here .before .before .refusal .ensures, rw (done here) (rw (block-width m (passed here .block .1)) at (c .before .fill .ensures)))
+    let m = here .before .before .before .before .args .m in (
+      here .before .before .refusal .ensures,
+      rw (done here) (rw (block-width m (passed here .block .1)) at (c .before .fill .ensures)),
+    )
 
 returns-2 : tie.Need-returns-2
 returns-2 c =
-    let start = c .before .before .before .before in
-    (c .before .before .refusal .ensures, rw (refused c) (sym (refused-keeps (c .enum-told2 .given .0 .0) (new start) (now (start .args .llr)))))
+    let start = c .before .before .before .before in (
+      c .before .before .refusal .ensures,
+      rw (refused c) (sym (refused-keeps (c .enum-told2 .given .0 .0) (new start) (now (start .args .llr)))),
+    )
 
 pub front-spec : {M : Type 1} → statement M
 front-spec =

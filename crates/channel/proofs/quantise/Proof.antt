@@ -1,4 +1,4 @@
-use Prim.Native.Nat.{_≤_, _%_, _/_, _^_}
+use Prim.Native.Nat.{ℕ, _≤_, _%_, _/_, _^_}
 use mathlib.Core.Path.{_≡_, sym, ap₂, _∙_, subst}
 use mathlib.Core.Bool.{Bool, true, false}
 use native.Mathlib.Omega.{arith}
@@ -11,16 +11,18 @@ use mir.Val.{toZ}
 use mir.Facts.{toZ-pos}
 use borrow.Author.Needs.{needs}
 use borrow.Author.Tests.{le-leb, lt-leb}
-use Rattle.channel.specs.Front.{signed, quantised}
-use Rattle.channel.specs.Working.{fieldUnits}
+use Rattle.calls.proofs.Signed.{minus-fits, minus-held}
+use Rattle.calls.specs.Bounds.{largestCeiling}
+use Rattle.calls.specs.Signs.{flipped}
+use Rattle.channel.specs.Front.{quantised}
+use Rattle.channel.specs.Private.{fieldUnits}
 use Rattle.channel.specs.FrontLaws.{rounded-bound}
 use Rattle.channel.proofs.Fields.{quantised-bits}
-use Rattle.channel.proofs.Narrow.{minus-fits, minus-is}
 use Rattle.channel.proofs.quantise.Statement.{statement}
 use Rattle.channel.proofs.quantise.Tie as tie
 
 -- the size, as it was computed and as the `i16` holds it
-small : (c : tie.After-rounded-size) → c .rounded-size .result ≤ 2047
+small : (c : tie.After-rounded-size) → c .rounded-size .result ≤ largestCeiling
 small c =
     let bits = toBits binary32 (c .before .args .value) in
     let units = fieldUnits (bits % 2147483648 / 8388608) (bits % 8388608) in
@@ -31,11 +33,12 @@ held c = toZ-pos w16 (omega (arith, small c))
 
 -- with the sign that the test finds
 ends : (c : tie.After-rounded-size) (s : Bool) → leb 2147483648 (toBits binary32 (c .before .args .value)) ≡ s
-    → signed s (c .rounded-size .result) ≡ quantised (c .before .args .ceiling) (c .before .args .value)
+    → flipped s (pos (c .rounded-size .result)) ≡ quantised (c .before .args .ceiling) (c .before .args .value)
 ends c s e =
     let a = c .before .args in
-    ap₂ signed (sym e) (c .rounded-size .ensures)
-    ∙ sym (quantised-bits (a .ceiling) (a .value) (omega arith) (subst T (sym (c .before .good .0 .1)) tt) (c .before .pre .0))
+    ap₂ (λ (t : Bool) (n : ℕ). flipped t (pos n)) (sym e) (c .rounded-size .ensures)
+    ∙ sym (quantised-bits (a .ceiling) (a .value) (omega arith) (subst T (sym (c .before .good .0 .1)) tt)
+    (c .before .pre .0))
 
 float-to-bits-bits : tie.Need-float-to-bits-bits
 float-to-bits-bits c = search needs
@@ -47,14 +50,15 @@ cast-size : tie.Need-cast-size
 cast-size c = record { sfits = omega (arith, small c) }
 
 sub-result : tie.Need-sub-result
-sub-result c = rw (held (c .before)) (minus-fits (pos (c .before .rounded-size .result)) (small (c .before)))
+sub-result c =
+    rw (held (c .before)) (minus-fits (pos (c .before .rounded-size .result)) (omega (arith, small (c .before))))
 
 returns : tie.Need-returns
 returns c = held (c .before) ∙ ends (c .before) false (lt-leb 2147483648 _ (c .if1 .taken))
 
 returns-2 : tie.Need-returns-2
 returns-2 c =
-    rw (held (c .before)) (minus-is (pos (c .before .rounded-size .result)) (small (c .before)))
+    rw (held (c .before)) (minus-held (pos (c .before .rounded-size .result)) (omega (arith, small (c .before))))
     ∙ ends (c .before) true (le-leb 2147483648 _ (c .if1 .left))
 
 pub quantise-spec : {M : Type 1} → statement M

@@ -8,6 +8,7 @@ use lib.Dec.{leb}
 use lib.ListN.{length}
 use borrow.Author.Needs.{needs}
 use borrow.Author.Tests.{ltb-true, ltb-false, le-leb, lt-leb, not-true, not-false}
+use Rattle.calls.specs.Bounds.{largestM, largestCeiling}
 use Rattle.calls.specs.Numbers.{check, between}
 use Rattle.channel.specs.Front.{isUsable, allFinite, frontNumber}
 use Rattle.channel.proofs.Accepted.{block-width}
@@ -28,18 +29,18 @@ abbrev past11 : tie.Else7 → tie.Start
 past11 c = past7 (c .before .before)
 
 -- ---- what each test says of them
-block : (c : tie.Else2) → between 1 10 (past1 c .args .m) ≡ true
+block : (c : tie.Else2) → between 1 largestM (past1 c .args .m) ≡ true
 block c =
     let m = past1 c .args .m in
-    simp (le-leb 1 m (omega arith), le-leb m 10 (ltb-false 10 m (c .if2 .left)))
+    simp (le-leb 1 m (omega arith), le-leb m largestM (ltb-false largestM m (c .if2 .left)))
 
-ceiling : (c : tie.Else4) → between 1 2047 (past2 c .args .ceiling) ≡ true
+ceiling : (c : tie.Else4) → between 1 largestCeiling (past2 c .args .ceiling) ≡ true
 ceiling c =
     let C = past2 c .args .ceiling in
-    simp (le-leb 1 C (omega arith), le-leb C 2047 (ltb-false 2047 C (c .if4 .left)))
+    simp (le-leb 1 C (omega arith), le-leb C largestCeiling (ltb-false largestCeiling C (c .if4 .left)))
 
 width : (c : tie.Else4) → 1 * 2 ^ past2 c .args .m % 2 ^ 64 ≡ 2 ^ past2 c .args .m
-width c = let m = past2 c .args .m in block-width m (ltb-false 10 m (c .before .before .if2 .left))
+width c = let m = past2 c .args .m in block-width m (ltb-false largestM m (c .before .before .if2 .left))
 
 abbrev long : tie.Start → Bool
 long c = let a = c .args in leb (2 ^ a .m) (length (now (a .samples))) && leb (2 ^ a .m) (a .room)
@@ -56,7 +57,8 @@ slices c =
 usable : (c : tie.Else7) → isUsable (past11 c .args .channel) ≡ true
 usable c = sym (c .before .usable .ensures) ∙ not-false (c .before .usable .result) (c .if7 .left)
 
-finite : (c : tie.After-all-finite) → let a = past11 (c .before) .args in c .all-finite .result ≡ allFinite (2 ^ a .m) (now (a .samples))
+finite : (c : tie.After-all-finite)
+    → let a = past11 (c .before) .args in c .all-finite .result ≡ allFinite (2 ^ a .m) (now (a .samples))
 finite c = rw (width (c .before .before .before .before .before)) at (c .all-finite .ensures)
 
 -- past 7 the number is that of the last two tests
@@ -75,7 +77,7 @@ returns c =
     let m = c .before .before .args .m in
     ⊎-elim
     (λ low. simp (lt-leb 1 m (low .taken)))
-    (λ high. simp (le-leb 1 m (high .0 .left), lt-leb m 10 (ltb-true 10 m (high .1 .taken))))
+    (λ high. simp (le-leb 1 m (high .0 .left), lt-leb m largestM (ltb-true largestM m (high .1 .taken))))
     (c .if1 .came)
 
 returns-2 : tie.Need-returns-2
@@ -83,11 +85,16 @@ returns-2 c =
     let C = past1 (c .before) .args .ceiling in
     ⊎-elim
     (λ low. simp (block (c .before), lt-leb 1 C (low .taken)))
-    (λ high. simp (block (c .before), le-leb 1 C (high .0 .left), lt-leb C 2047 (ltb-true 2047 C (high .1 .taken))))
+    (λ high.
+    simp (
+      block (c .before),
+      le-leb 1 C (high .0 .left),
+      lt-leb C largestCeiling (ltb-true largestCeiling C (high .1 .taken)),
+    ))
     (c .if3 .came)
 
 shl-n : tie.Need-shl-n
-shl-n c = let m = past2 c .args .m in omega (arith, ltb-false 10 m (c .before .before .if2 .left))
+shl-n c = let m = past2 c .args .m in omega (arith, ltb-false largestM m (c .before .before .if2 .left))
 
 returns-3 : tie.Need-returns-3
 returns-3 c =
@@ -111,7 +118,8 @@ usable-requires c κs = search needs
 
 returns-4 : tie.Need-returns-4
 returns-4 c =
-    sym (past (c .before .before) ∙ simp (sym (c .before .usable .ensures) ∙ not-true (c .before .usable .result) (c .if7 .taken)))
+    sym (past (c .before .before)
+    ∙ simp (sym (c .before .usable .ensures) ∙ not-true (c .before .usable .result) (c .if7 .taken)))
 
 all-finite-requires : tie.Need-all-finite-requires
 all-finite-requires c κs = search needs
@@ -119,12 +127,14 @@ all-finite-requires c κs = search needs
 returns-5 : tie.Need-returns-5
 returns-5 c =
     let e7 = c .before .before in
-    sym (past (e7 .before .before) ∙ simp (usable e7, sym (finite (c .before)) ∙ not-true (c .before .all-finite .result) (c .if8 .taken)))
+    sym (past (e7 .before .before)
+    ∙ simp (usable e7, sym (finite (c .before)) ∙ not-true (c .before .all-finite .result) (c .if8 .taken)))
 
 returns-6 : tie.Need-returns-6
 returns-6 c =
     let e7 = c .before .before in
-    sym (past (e7 .before .before) ∙ simp (usable e7, sym (finite (c .before)) ∙ not-false (c .before .all-finite .result) (c .if8 .left)))
+    sym (past (e7 .before .before)
+    ∙ simp (usable e7, sym (finite (c .before)) ∙ not-false (c .before .all-finite .result) (c .if8 .left)))
 
 pub refusal-spec : {M : Type 1} → statement M
 refusal-spec =

@@ -6,7 +6,8 @@ use mir.Syntax.{w16}
 use mir.Val.{SFits, toZ, ofZ}
 use mir.Facts.{toZ-ofZ, toZ-pos}
 use Rattle.message.specs.Message.{add}
-use Rattle.message.proofs.Machine.{told, sum-fits, minus-fits, minus-held, cut-twice}
+use Rattle.calls.proofs.Signed.{told, minus-fits, minus-held}
+use Rattle.message.proofs.Machine.{sum-fits, cut-twice}
 use Rattle.message.proofs.add_cut.Statement.{statement}
 use Rattle.message.proofs.add_cut.Tie as tie
 
@@ -42,7 +43,12 @@ unfolding add
 returns c =
     let s = c .before .before .before in
     let cut-above =
-    simp (ceiling-known s, toZ-ofZ (s .fits .a), toZ-ofZ (s .fits .b), toZ-ofZ (fits s)) at (c .before .lower-of .ensures)
+    simp (
+      ceiling-known s,
+      toZ-ofZ (s .fits .a),
+      toZ-ofZ (s .fits .b),
+      toZ-ofZ (fits s),
+    ) at (c .before .lower-of .ensures)
     in
     told (c .higher-of .ok) (c .higher-of .ensures)
     ∙ simp (ceiling-known s, minus-known s, told (c .before .lower-of .ok) cut-above)

@@ -1,5 +1,5 @@
 use mir.Facts.{toZ-ofZ}
-use Rattle.message.proofs.Machine.{below-zero}
+use Rattle.calls.proofs.Signed.{below-zero}
 use Rattle.message.proofs.is_negative.Statement.{statement}
 use Rattle.message.proofs.is_negative.Tie as tie
 

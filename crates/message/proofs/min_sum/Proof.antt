@@ -4,32 +4,34 @@ use native.Mathlib.Omega.{arith}
 use lib.IntN.{natAbs}
 use borrow.Author.Needs.{needs}
 use mir.Facts.{toZ-ofZ}
+use Rattle.calls.proofs.Signed.{told}
+use Rattle.calls.specs.Bounds.{largestCeiling}
 use Rattle.calls.specs.Signs.{isNegative}
 use Rattle.message.specs.Message.{f}
-use Rattle.message.proofs.Machine.{told, unequal, product-le}
+use Rattle.message.proofs.Machine.{unequal, product-le}
 use Rattle.message.proofs.min_sum.Statement.{statement}
 use Rattle.message.proofs.min_sum.Tie as tie
 
-size-of-requires : tie.Need-size-of-requires
-size-of-requires c κs = rw (toZ-ofZ (c .fits .a)) (omega arith)
+size-requires : tie.Need-size-requires
+size-requires c κs = rw (toZ-ofZ (c .fits .a)) (omega arith)
 
-size-of-requires-2 : tie.Need-size-of-requires-2
-size-of-requires-2 c κs = rw (toZ-ofZ (c .before .fits .b)) (omega arith)
+size-requires-2 : tie.Need-size-requires-2
+size-requires-2 c κs = rw (toZ-ofZ (c .before .fits .b)) (omega arith)
 
-smaller-size-requires : tie.Need-smaller-size-requires
-smaller-size-requires c κs = search needs
+smaller-requires : tie.Need-smaller-requires
+smaller-requires c κs = search needs
 
-module _ (c : tie.After-smaller-size) where
+module _ (c : tie.After-smaller) where
   abbrev start : tie.Start
   start = c .before .before .before
 
-  smaller-is : c .smaller-size .result ≡ min (natAbs (start .args .a)) (natAbs (start .args .b))
+  smaller-is : c .smaller .result ≡ min (natAbs (start .args .a)) (natAbs (start .args .b))
   smaller-is =
-      let first = simp (toZ-ofZ (start .fits .a)) at (c .before .before .size-of .ensures) in
-      let second = simp (toZ-ofZ (start .fits .b)) at (c .before .size-of2 .ensures) in
+      let first = simp (toZ-ofZ (start .fits .a)) at (c .before .before .size .ensures) in
+      let second = simp (toZ-ofZ (start .fits .b)) at (c .before .size2 .ensures) in
       omega arith
 
-  smaller-le : c .smaller-size .result ≤ 2047
+  smaller-le : c .smaller .result ≤ largestCeiling
   smaller-le = omega (arith, smaller-is)
 
 scaled-requires : tie.Need-scaled-requires
@@ -45,7 +47,7 @@ with-sign-requires : tie.Need-with-sign-requires
 with-sign-requires c κs =
     let m = c .before .before .before in
     let small = smaller-le m in
-    omega (arith, product-le (start m .args .rule .scale) (m .smaller-size .result) (start m .pre .0 .scale-le) small)
+    omega (arith, product-le (start m .args .rule .scale) (m .smaller .result) (start m .pre .0 .scale-le) small)
 
 returns : tie.Need-returns
 unfolding f
@@ -61,9 +63,9 @@ pub min-sum-spec : {M : Type 1} → statement M
 min-sum-spec =
     tie.close
     (tie.spec
-    size-of-requires
-    size-of-requires-2
-    smaller-size-requires
+    size-requires
+    size-requires-2
+    smaller-requires
     scaled-requires
     is-negative-requires
     is-negative-requires-2

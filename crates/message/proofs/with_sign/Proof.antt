@@ -5,7 +5,7 @@ use borrow.Author.Needs.{needs}
 use mir.Syntax.{w16}
 use mir.Val.{toZ}
 use mir.Facts.{toZ-pos}
-use Rattle.message.proofs.Machine.{minus-fits, minus-held}
+use Rattle.calls.proofs.Signed.{minus-fits, minus-held}
 use Rattle.message.proofs.with_sign.Statement.{statement}
 use Rattle.message.proofs.with_sign.Tie as tie
 

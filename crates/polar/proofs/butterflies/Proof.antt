@@ -27,7 +27,8 @@ module _ (c : tie.In-loop Inv-loop μ-loop) where
   fits : at .loop .p + 2 ^ start .args .t ≤ 2 ^ start .args .m
   fits = run-fits _ _ (at .loop .inv .3 .runs) _ (start .pre .0 .1) (omega arith)
 
-  pair-fits : digit (start .args .t) (at .loop .p) ≡ 0 → at .loop .p + 2 ^ start .args .t + 2 ^ start .args .t ≤ 2 ^ start .args .m
+  pair-fits : digit (start .args .t) (at .loop .p) ≡ 0
+      → at .loop .p + 2 ^ start .args .t + 2 ^ start .args .t ≤ 2 ^ start .args .m
   pair-fits = upper-fits _ _ (at .loop .inv .3 .runs) _ (start .pre .0 .1) (omega arith)
 
 power-of-two-requires : tie.Need-power-of-two-requires Inv-loop μ-loop
@@ -43,7 +44,12 @@ join-requires : tie.Need-join-requires Inv-loop μ-loop
 join-requires c κs =
     let in-loop = c .before .before in
     let h = in-loop .before .loop .inv in
-    omega (arith, start in-loop .pre .1 .long, stepped-length (h .3), pair-fits in-loop (mask-clear _ _ _ (h .1) (c .before .if1 .taken)))
+    omega (
+      arith,
+      start in-loop .pre .1 .long,
+      stepped-length (h .3),
+      pair-fits in-loop (mask-clear _ _ _ (h .1) (c .before .if1 .taken)),
+    )
 
 add-p : tie.Need-add-p Inv-loop μ-loop
 add-p c = omega (arith, fits (c .before))
@@ -59,8 +65,11 @@ loop-again c =
       h .1,
       omega (arith, fits (c .before)),
       ⊎-elim
-          (λ w. stepped-upper (h .3) (s .args .m) (s .pre .0 .1) (omega arith) (s .pre .1) (mask-clear _ _ _ (h .1) (w .0 .taken)) _ _ (h .1) (w .5 ∙ w .2 .ensures))
-          (λ w. rw (w .1) (stepped-lower (h .3) (s .args .m) (s .pre .0 .1) (omega arith) (s .pre .1) (mask-set _ _ _ (h .1) (w .0 .left)) _ (h .1)))
+          (λ w. stepped-upper (h .3) (s .args .m) (s .pre .0 .1) (omega arith) (s .pre .1)
+          (mask-clear _ _ _ (h .1) (w .0 .taken)) _ _ (h .1) (w .5 ∙ w .2 .ensures))
+          (λ w. rw (w .1)
+          (stepped-lower (h .3) (s .args .m) (s .pre .0 .1) (omega arith) (s .pre .1)
+          (mask-set _ _ _ (h .1) (w .0 .left)) _ (h .1)))
           (c .if1 .came),
     )
 
@@ -68,7 +77,9 @@ same-length : tie.Need-same-length Inv-loop μ-loop
 same-length c = stepped-length (c .before .loop .inv .3)
 
 returns : tie.Need-returns Inv-loop μ-loop
-returns c = let e : c .before .loop .p ≡ 2 ^ c .before .before .before .before .before .args .m = omega arith in rw e at (c .before .loop .inv .3 .is)
+returns c =
+    let e : c .before .loop .p ≡ 2 ^ c .before .before .before .before .before .args .m = omega arith in
+    rw e at (c .before .loop .inv .3 .is)
 
 pub butterflies-spec : {M : Type 1} → statement M
 butterflies-spec =

@@ -8,7 +8,8 @@ use lib.ListN.{length}
 use Rattle.calls.specs.Memory.{overwrite}
 use Rattle.calls.specs.Numbers.{numberOf}
 use Rattle.calls.specs.NumberLaws.{refused-keeps}
-use Rattle.polar.specs.Code.{byteOf, encodeNumber, informationCount, uBit}
+use Rattle.calls.specs.Bits.{byteOf}
+use Rattle.polar.specs.Code.{encodeNumber, informationCount, uBit}
 use Rattle.polar.specs.BlockLaws.{bits-written}
 use Rattle.polar.specs.CodeLaws.{CodeAccepted, MessageAccepted, encode-accepted}
 use Rattle.polar.proofs.Steps.{placed-coded}
@@ -19,11 +20,13 @@ module _ (c : tie.After-enum-told) where
   abbrev start : tie.Start
   start = c .before .before .before .before .before .before
 
-  passed : encodeNumber (start .args .code) (now (start .args .mask)) (now (start .args .message)) (length (now (start .args .block))) ≡ 0
+  passed : encodeNumber (start .args .code) (now (start .args .mask)) (now (start .args .message))
+      (length (now (start .args .block))) ≡ 0
   passed = sym (c .before .before .encode-refusal .ensures) ∙ ap numberOf (c .enum-told .given .1)
 
   accepted : CodeAccepted (start .args .code) (now (start .args .mask)) (length (now (start .args .block)))
-      × MessageAccepted (now (start .args .message)) (informationCount (now (start .args .mask)) (2 ^ start .args .code .m))
+      × MessageAccepted (now (start .args .message))
+      (informationCount (now (start .args .mask)) (2 ^ start .args .code .m))
   accepted = encode-accepted _ _ (now (start .args .message)) _ passed
 
   abbrev u : ℕ → Bool
@@ -34,7 +37,8 @@ module _ (c : tie.After-place) where
   told = c .before .before .before
 
   -- u stands in the block
-  placed : c .place .last .1 .1 .1 .0 ≡ overwrite (2 ^ start told .args .code .m) (λ i. byteOf (u told i)) (now (start told .args .block))
+  placed : c .place .last .1 .1 .1 .0
+      ≡ overwrite (2 ^ start told .args .code .m) (λ i. byteOf (u told i)) (now (start told .args .block))
   placed = rw (c .before .before .power-of-two .ensures) at (c .place .ensures)
 
 encode-refusal-requires : tie.Need-encode-refusal-requires

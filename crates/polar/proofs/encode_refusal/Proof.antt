@@ -47,7 +47,11 @@ returns c =
 returns-2 : tie.Need-returns-2
 returns-2 c =
     c .message-refusal .ensures
-    ∙ rw (c .before .information-count .ensures, c .before .before .power-of-two .ensures, passed (c .before .before .before))
+    ∙ rw (
+      c .before .information-count .ensures,
+      c .before .before .power-of-two .ensures,
+      passed (c .before .before .before),
+    )
 
 pub encode-refusal-spec : {M : Type 1} → statement M
 encode-refusal-spec =

@@ -1,11 +1,21 @@
 -- `gather` meets its contract.
-use Prim.Native.Nat.{_≤_, _-_, _<_, zero-le}
-use mathlib.Core.Path.{_≡_, refl, _∙_}
+use Prim.Native.Nat.{ℕ, _≤_, _-_, _<_, zero-le}
+use mathlib.Core.Path.{_≡_, refl, sym, _∙_}
 use mathlib.Core.Logic.{⊎-elim}
 use native.Mathlib.Omega.{arith}
+use borrow.Author.Needs.{needs}
+use mathlib.Core.Bool.{Bool, true, false}
 use lib.ListN.{length, getD}
+use Rattle.polar.specs.Mask.{isInformation}
 use Rattle.polar.specs.Code.{informationCount}
-use Rattle.polar.proofs.Loops.{Gathered, gathered-none, gathered-length, gathered-information, gathered-frozen, count-lt}
+use Rattle.polar.proofs.Loops.{
+  Gathered,
+  gathered-none,
+  gathered-length,
+  gathered-information,
+  gathered-frozen,
+  count-lt,
+}
 use Rattle.polar.proofs.gather.Statement.{statement}
 use Rattle.polar.proofs.gather.Tie as tie
 
@@ -15,31 +25,56 @@ Inv-loop mask bytes n message₀ count₀ i₀ message count i = (i ≤ n) × Ga
 abbrev μ-loop : tie.MeasureT-loop
 μ-loop mask bytes n message₀ count₀ i₀ message count i = n - i
 
-in-count : (c : tie.In-loop Inv-loop μ-loop) → getD (c .before .before .args .mask .now) (c .before .loop .i) 0 ≡ 0
-    → c .before .loop .count < informationCount (c .before .before .args .mask .now) (c .before .before .args .n)
-in-count c z =
-    let at = c .before in
-    rw (at .loop .inv .1 .counted) (count-lt (at .before .args .mask .now) (at .loop .i) (at .before .args .n) z (omega arith))
+module _ (c : tie.In-loop Inv-loop μ-loop) where
+  abbrev at : tie.At-loop Inv-loop μ-loop
+  at = c .before
 
-in-message : (c : tie.At-loop Inv-loop μ-loop) → length (c .loop .message) ≡ length (c .before .args .message .now)
-in-message c = gathered-length (c .loop .inv .1)
+  abbrev start : tie.Start Inv-loop μ-loop
+  start = at .before .before .before .before
+
+  abbrev kind : ℕ
+  kind = getD (start .args .mask .now) (at .loop .i) 0
+
+  in-message : length (at .loop .message) ≡ length (start .args .message .now)
+  in-message = gathered-length (at .loop .inv .1)
+
+  in-count : isInformation kind ≡ true → at .loop .count < informationCount (start .args .mask .now) (start .args .n)
+  in-count z =
+      omega (
+        arith,
+        at .loop .inv .1 .counted,
+        count-lt (start .args .mask .now) (at .loop .i) (start .args .n) z (omega arith),
+      )
+
+-- what the code's test of the mask's byte says
+module _ (c : tie.After-is-information Inv-loop μ-loop) where
+  abbrev in-loop : tie.In-loop Inv-loop μ-loop
+  in-loop = c .before .before
+
+  tested : {b : Bool} → c .is-information .result ≡ b → isInformation (kind in-loop) ≡ b
+  tested e = sym (c .is-information .ensures) ∙ e
 
 loop-holds : tie.Need-loop-holds Inv-loop μ-loop
 loop-holds c = (zero-le, gathered-none)
 
-shared-slice-read-if1 : tie.Need-shared-slice-read-if1 Inv-loop μ-loop
-shared-slice-read-if1 c = omega arith
+shared-slice-read-is-information : tie.Need-shared-slice-read-is-information Inv-loop μ-loop
+shared-slice-read-is-information c = omega arith
+
+is-information-requires : tie.Need-is-information-requires Inv-loop μ-loop
+is-information-requires c κs = search needs
 
 shared-slice-read-message : tie.Need-shared-slice-read-message Inv-loop μ-loop
 shared-slice-read-message c = omega arith
 
 slice-write-message : tie.Need-slice-write-message Inv-loop μ-loop
 slice-write-message c =
-    let in-loop = c .before .before .before in
-    omega (arith, in-message (in-loop .before), in-count in-loop (c .before .if1 .taken))
+    let call = c .before .before in
+    omega (arith, in-message (in-loop call), in-count (in-loop call) (tested call (c .before .if1 .taken)))
 
 add-count : tie.Need-add-count Inv-loop μ-loop
-add-count c = omega (arith, in-count (c .before .before .before) (c .before .if1 .taken))
+add-count c =
+    let call = c .before .before in
+    omega (arith, in-count (in-loop call) (tested call (c .before .if1 .taken)))
 
 add-i : tie.Need-add-i Inv-loop μ-loop
 add-i c = omega arith
@@ -49,20 +84,24 @@ loop-less c = omega arith
 
 loop-again : tie.Need-loop-again Inv-loop μ-loop
 loop-again c =
-    let at = c .before .before .before in
-    let h = at .loop .inv .1 in (
+    let call = c .before in
+    let here = in-loop call in
+    let h = at here .loop .inv .1 in (
       omega arith,
       ⊎-elim
-          (λ w. let r : at .loop .count < length (at .before .args .message .now) = omega (arith, in-count (c .before .before) (w .0 .taken)) in
-          rw (w .2, w .3) (gathered-information h (w .0 .taken) (omega arith) r))
-          (λ w. rw (w .1, w .2) (gathered-frozen h (w .0 .left))) (c .if1 .came),
+          (λ w. let z = tested call (w .0 .taken) in
+          let r : at here .loop .count < length (start here .args .message .now) = omega (arith, in-count here z) in
+          rw (w .2, w .3) (gathered-information h z (omega arith) r))
+          (λ w. rw (w .1, w .2) (gathered-frozen h (tested call (w .0 .left)))) (c .if1 .came),
     )
 
 same-length : tie.Need-same-length Inv-loop μ-loop
-same-length c = in-message (c .before)
+same-length c = gathered-length (c .before .loop .inv .1)
 
 returns : tie.Need-returns Inv-loop μ-loop
-returns c = let e : c .before .loop .i ≡ c .before .before .args .n = omega arith in rw (c .before .loop .inv .1 .counted, e) at (c .before .loop .inv .1 .is)
+returns c =
+    let e : c .before .loop .i ≡ c .before .before .before .before .before .args .n = omega arith in
+    rw (c .before .loop .inv .1 .counted, e) at (c .before .loop .inv .1 .is)
 
 pub gather-spec : {M : Type 1} → statement M
 gather-spec =
@@ -71,7 +110,8 @@ gather-spec =
     Inv-loop
     μ-loop
     loop-holds
-    shared-slice-read-if1
+    shared-slice-read-is-information
+    is-information-requires
     shared-slice-read-message
     slice-write-message
     add-count

@@ -51,7 +51,8 @@ same-length : tie.Need-same-length Inv-loop μ-loop
 same-length c = joined-length (c .before .loop .inv .1)
 
 returns : tie.Need-returns Inv-loop μ-loop
-returns c = let e : c .before .loop .i ≡ c .before .before .args .d = omega arith in rw e at (c .before .loop .inv .1 .is)
+returns c =
+    let e : c .before .loop .i ≡ c .before .before .args .d = omega arith in rw e at (c .before .loop .inv .1 .is)
 
 pub join-spec : {M : Type 1} → statement M
 join-spec =

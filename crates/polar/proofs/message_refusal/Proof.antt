@@ -12,10 +12,12 @@ are-bits-requires : tie.Need-are-bits-requires
 are-bits-requires c κs = omega arith
 
 returns-2 : tie.Need-returns-2
-returns-2 c = simp (le-leb _ _ (c .before .before .if1 .left), sym (c .before .are-bits .ensures) ∙ not-true _ (c .if2 .taken))
+returns-2 c =
+    simp (le-leb _ _ (c .before .before .if1 .left), sym (c .before .are-bits .ensures) ∙ not-true _ (c .if2 .taken))
 
 returns-3 : tie.Need-returns-3
-returns-3 c = simp (le-leb _ _ (c .before .before .if1 .left), sym (c .before .are-bits .ensures) ∙ not-false _ (c .if2 .left))
+returns-3 c =
+    simp (le-leb _ _ (c .before .before .if1 .left), sym (c .before .are-bits .ensures) ∙ not-false _ (c .if2 .left))
 
 pub message-refusal-spec : {M : Type 1} → statement M
 message-refusal-spec = tie.close (tie.spec returns are-bits-requires returns-2 returns-3)

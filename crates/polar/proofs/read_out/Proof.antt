@@ -15,7 +15,8 @@ module _ (c : tie.After-enum-told) where
   abbrev start : tie.Start
   start = c .before .before .before .before .before .before
 
-  passed : readOutNumber (start .args .code) (now (start .args .mask)) (now (start .args .bytes)) (length (now (start .args .message))) ≡ 0
+  passed : readOutNumber (start .args .code) (now (start .args .mask)) (now (start .args .bytes))
+      (length (now (start .args .message))) ≡ 0
   passed = sym (c .before .before .read-out-refusal .ensures) ∙ ap numberOf (c .enum-told .given .1)
 
   accepted : CodeAccepted (start .args .code) (now (start .args .mask)) (length (now (start .args .bytes)))
@@ -50,8 +51,11 @@ same-length c = search needs
 
 returns-2 : tie.Need-returns-2
 returns-2 c =
-    let told = c .before .before .before .before .before in
-    (sym (passed told), c .before .before .gather .ensures ∙ rw (c .before .before .before .before .power-of-two .ensures, passed told))
+    let told = c .before .before .before .before .before in (
+      sym (passed told),
+      c .before .before .gather .ensures
+          ∙ rw (c .before .before .before .before .power-of-two .ensures, passed told),
+    )
 
 pub read-out-spec : {M : Type 1} → statement M
 read-out-spec =

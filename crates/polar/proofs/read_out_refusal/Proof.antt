@@ -23,7 +23,8 @@ module _ (c : tie.After-enum-told) where
   accepted = code-accepted _ _ _ passed
 
 count : (c : tie.After-information-count)
-    → c .information-count .result ≡ informationCount (now (start (c .before .before) .args .mask)) (2 ^ start (c .before .before) .args .code .m)
+    → c .information-count .result
+    ≡ informationCount (now (start (c .before .before) .args .mask)) (2 ^ start (c .before .before) .args .code .m)
 count c = rw (c .before .power-of-two .ensures) at (c .information-count .ensures)
 
 code-refusal-requires : tie.Need-code-refusal-requires

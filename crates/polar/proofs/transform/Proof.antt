@@ -2,7 +2,14 @@
 use Prim.Native.Nat.{_≤_, _-_, zero-le}
 use mathlib.Core.Path.{_≡_}
 use native.Mathlib.Omega.{arith}
-use Rattle.polar.proofs.Steps.{Columned, columned-none, columned-length, columned-bits, columned-next, columned-all}
+use Rattle.polar.proofs.Steps.{
+  Columned,
+  columned-none,
+  columned-length,
+  columned-bits,
+  columned-next,
+  columned-all,
+}
 use Rattle.polar.proofs.transform.Statement.{statement}
 use Rattle.polar.proofs.transform.Tie as tie
 
@@ -34,8 +41,11 @@ loop-less c = omega arith
 
 loop-again : tie.Need-loop-again Inv-loop μ-loop
 loop-again c =
-    let at = c .before .before .before .before .before in
-    (omega arith, columned-next (at .loop .inv .1) (at .before .before .pre .1) (omega arith) _ (c .before .before .butterflies .ensures))
+    let at = c .before .before .before .before .before in (
+      omega arith,
+      columned-next (at .loop .inv .1) (at .before .before .pre .1) (omega arith) _
+          (c .before .before .butterflies .ensures),
+    )
 
 same-length : tie.Need-same-length Inv-loop μ-loop
 same-length c = columned-length (c .before .loop .inv .1)

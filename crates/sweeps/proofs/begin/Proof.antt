@@ -22,7 +22,8 @@ mul-clear c = search needs
 mul-clear-2 : tie.Need-mul-clear-2
 mul-clear-2 c =
     let s = c .before .before .before in
-    let e : 2 * (s .args .m + 1) * c .before .power-of-two .result ≤ length (now (s .args .work)) = rw (c .before .power-of-two .ensures) (s .pre .4) in
+    let e : 2 * (s .args .m + 1) * c .before .power-of-two .result ≤ length (now (s .args .work))
+    = rw (c .before .power-of-two .ensures) (s .pre .4) in
     omega arith
 
 clear-requires : tie.Need-clear-requires
@@ -42,7 +43,8 @@ unfolding start
 returns c =
     let prior = c .before .before .before .before in
     let cleared = prior .before .before .before in
-    c .before .set-llr .ensures ∙ rw (prior .set-prior .ensures, cleared .clear .ensures, cleared .before .before .power-of-two .ensures)
+    c .before .set-llr .ensures
+    ∙ rw (prior .set-prior .ensures, cleared .clear .ensures, cleared .before .before .power-of-two .ensures)
 
 pub begin-spec : {M : Type 1} → statement M
 begin-spec =

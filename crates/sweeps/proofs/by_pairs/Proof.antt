@@ -5,13 +5,14 @@ use mathlib.Core.Logic.{⊎-elim}
 use native.Mathlib.Omega.{arith}
 use lib.Pow.{pow-pos}
 use Rattle.polar.specs.DigitLaws.{mask-clear, mask-set}
-use Rattle.sweeps.proofs.Filled.{filled-length, filled-ready}
+use Rattle.sweeps.proofs.Filled.{filled-length, filled-valid}
 use Rattle.sweeps.proofs.Pairs.{FilledRuns, runs-none, run-end, runs-upper, runs-lower, runs-done}
 use Rattle.sweeps.proofs.by_pairs.Statement.{statement}
 use Rattle.sweeps.proofs.by_pairs.Tie as tie
 
 abbrev Inv-loop : tie.InvT-loop
-Inv-loop rule m t k x y work₀ n d p₀ work p = (n ≡ 2 ^ m) × (d ≡ 2 ^ t) × (p ≤ n) × FilledRuns rule m t k x y p work₀ work
+Inv-loop rule m t k x y work₀ n d p₀ work p =
+    (n ≡ 2 ^ m) × (d ≡ 2 ^ t) × (p ≤ n) × FilledRuns rule m t k x y p work₀ work
 
 abbrev μ-loop : tie.MeasureT-loop
 μ-loop rule m t k x y work₀ n d p₀ work p = n - p
@@ -39,7 +40,7 @@ join-runs-requires : tie.Need-join-runs-requires Inv-loop μ-loop
 join-runs-requires c κs =
     let i = c .before .before in
     let h = at i .loop .inv in (
-      filled-ready (h .3 .filled) (start i .pre .0),
+      filled-valid (h .3 .filled) (start i .pre .0),
       (
         start i .pre .1,
         record {
@@ -64,7 +65,8 @@ loop-again c =
       h .1,
       omega (arith, ends (c .before)),
       ⊎-elim
-          (λ w. runs-upper (h .3) (s .pre .1) (omega arith) (h .1) (mask-clear _ _ _ (h .1) (w .0 .taken)) (w .4 ∙ w .2 .ensures))
+          (λ w. runs-upper (h .3) (s .pre .1) (omega arith) (h .1) (mask-clear _ _ _ (h .1) (w .0 .taken))
+          (w .4 ∙ w .2 .ensures))
           (λ w. rw (w .1) (runs-lower (h .3) (s .pre .1) (omega arith) (h .1) (mask-set _ _ _ (h .1) (w .0 .left))))
           (c .if1 .came),
     )

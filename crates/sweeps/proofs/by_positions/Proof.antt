@@ -7,9 +7,17 @@ use denote.Ref.{now}
 use lib.Dec.{lit<}
 use lib.ListN.{length}
 use lib.Pow.{shl-exact}
-use Rattle.message.proofs.Machine.{told}
+use Rattle.calls.proofs.Signed.{told}
 use Rattle.sweeps.specs.WorkspaceLaws.{row-lt}
-use Rattle.sweeps.proofs.Filled.{Filled, filled-none, filled-length, filled-ready, filled-next, filled-all, readable}
+use Rattle.sweeps.proofs.Filled.{
+  Filled,
+  filled-none,
+  filled-length,
+  filled-valid,
+  filled-next,
+  filled-all,
+  readable,
+}
 use Rattle.sweeps.proofs.by_positions.Statement.{statement}
 use Rattle.sweeps.proofs.by_positions.Tie as tie
 
@@ -30,7 +38,8 @@ module _ (c : tie.In-loop Inv-loop μ-loop) where
   inside = omega arith
 
   -- a place of the workspace lies in the list
-  place : (j : ℕ) → j < 2 * (start .args .m + 1) → j * at .before .power-of-two .result + at .loop .p < length (now (start .args .work))
+  place : (j : ℕ) → j < 2 * (start .args .m + 1)
+      → j * at .before .power-of-two .result + at .loop .p < length (now (start .args .work))
   place j h =
       subst (λ (n : ℕ). j * n + at .loop .p < length (now (start .args .work))) (sym (at .loop .inv .0))
       (lt-of-lt-of-le (row-lt (start .args .m) j (at .loop .p) h inside) (start .pre .0 .room))
@@ -48,17 +57,19 @@ loop-holds : tie.Need-loop-holds Inv-loop μ-loop
 loop-holds c = (c .power-of-two .ensures, shl-exact 1 _ 16 (lit< tt) (omega arith) ∙ one-mul _, zero-le, filled-none)
 
 mul-new-message : tie.Need-mul-new-message Inv-loop μ-loop
-mul-new-message c = let s = start (c .before) in omega (arith, place (c .before) (s .args .x) (omega (arith, s .pre .1 .first)))
+mul-new-message c =
+    let s = start (c .before) in omega (arith, place (c .before) (s .args .x) (omega (arith, s .pre .1 .first)))
 
 mul-new-message-2 : tie.Need-mul-new-message-2 Inv-loop μ-loop
-mul-new-message-2 c = let s = start (c .before) in omega (arith, place (c .before) (s .args .y) (omega (arith, s .pre .1 .second)))
+mul-new-message-2 c =
+    let s = start (c .before) in omega (arith, place (c .before) (s .args .y) (omega (arith, s .pre .1 .second)))
 
 new-message-requires : tie.Need-new-message-requires Inv-loop μ-loop
 new-message-requires c κs =
     let in-loop = c .before in
     let s = start in-loop in
     let h = at in-loop .loop .inv in
-    (s .pre .0 .tested, rw (h .0, h .1) (readable (filled-ready (h .3) (s .pre .0)) (s .pre .1) (inside in-loop)))
+    (s .pre .0 .in-range, rw (h .0, h .1) (readable (filled-valid (h .3) (s .pre .0)) (s .pre .1) (inside in-loop)))
 
 mul-v : tie.Need-mul-v Inv-loop μ-loop
 mul-v c = let i = c .before .before in omega (arith, place i (start i .args .k) (start i .pre .1 .written))
@@ -84,8 +95,14 @@ loop-again : tie.Need-loop-again Inv-loop μ-loop
 loop-again c =
     let in-loop = c .before .before in
     let s = start in-loop in
-    let h = at in-loop .loop .inv in
-    (h .0, h .1, omega arith, rw (h .0) (filled-next (h .3) (s .pre .0) (s .pre .1) (inside in-loop) (rw (h .0, h .1) at (told (c .new-message .ok) (c .new-message .ensures)))))
+    let h = at in-loop .loop .inv in (
+      h .0,
+      h .1,
+      omega arith,
+      rw (h .0)
+          (filled-next (h .3) (s .pre .0) (s .pre .1) (inside in-loop)
+          (rw (h .0, h .1) at (told (c .new-message .ok) (c .new-message .ensures)))),
+    )
 
 same-length : tie.Need-same-length Inv-loop μ-loop
 same-length c = filled-length (c .before .loop .inv .3)

@@ -37,8 +37,11 @@ loop-less c = omega arith
 
 loop-again : tie.Need-loop-again Inv-loop μ-loop
 loop-again c =
-    let at = c .before in
-    (omega arith, rw (at .loop .inv .1, add-one) (overwrite-store (at .loop .i) (λ j. pos 0) (now (at .before .args .work)) (omega arith)))
+    let at = c .before in (
+      omega arith,
+      rw (at .loop .inv .1, add-one)
+          (overwrite-store (at .loop .i) (λ j. pos 0) (now (at .before .args .work)) (omega arith)),
+    )
 
 same-length : tie.Need-same-length Inv-loop μ-loop
 same-length c = long (c .before)

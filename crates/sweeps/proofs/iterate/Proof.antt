@@ -1,7 +1,7 @@
 -- `iterate` meets its contract.
 use mathlib.Core.Path.{_≡_, ap, _∙_}
 use borrow.Author.Needs.{needs}
-use Rattle.sweeps.specs.IterationLaws.{ready-left}
+use Rattle.sweeps.specs.IterationLaws.{valid-left}
 use Rattle.sweeps.proofs.iterate.Statement.{statement}
 use Rattle.sweeps.proofs.iterate.Tie as tie
 
@@ -9,7 +9,9 @@ left-sweep-requires : tie.Need-left-sweep-requires
 left-sweep-requires c κs = search needs
 
 right-sweep-requires : tie.Need-right-sweep-requires
-right-sweep-requires c κs = rw (c .before .before .left-sweep .ensures) (ready-left (c .before .before .before .before .pre) (c .before .before .before .before .args .m))
+right-sweep-requires c κs =
+    let start = c .before .before .before .before in
+    rw (c .before .before .left-sweep .ensures) (valid-left (start .pre) (start .args .m))
 
 same-length : tie.Need-same-length
 same-length c = search needs

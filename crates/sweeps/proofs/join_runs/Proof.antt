@@ -4,9 +4,18 @@ use mathlib.Core.Path.{_≡_}
 use native.Mathlib.Omega.{arith}
 use denote.Ref.{now}
 use lib.ListN.{length, length-set}
-use Rattle.message.proofs.Machine.{told}
-use Rattle.sweeps.specs.Working.{Readable}
-use Rattle.sweeps.proofs.Pairs.{Paired, paired-none, paired-length, newFrom, runs-room, runs-readable, runs-next, runs-all}
+use Rattle.calls.proofs.Signed.{told}
+use Rattle.sweeps.specs.Private.{Readable}
+use Rattle.sweeps.proofs.Pairs.{
+  Paired,
+  paired-none,
+  paired-length,
+  newFrom,
+  runs-room,
+  runs-readable,
+  runs-next,
+  runs-all,
+}
 use Rattle.sweeps.proofs.Rows.{place}
 use Rattle.sweeps.proofs.join_runs.Statement.{statement}
 use Rattle.sweeps.proofs.join_runs.Tie as tie
@@ -23,12 +32,17 @@ module _ (c : tie.After-power-of-two2 Inv-loop μ-loop) where
   start = c .before .before
 
   -- the rows that are read, and the runs that are written, lie in the list
-  row-room : (j : ℕ) → j < 2 * (start .args .m + 1) → j * c .before .power-of-two .result + start .args .p < length (now (start .args .work))
-  row-room j h = place (start .args .m) j (start .args .p) _ _ (c .before .power-of-two .ensures) h (start .pre .1 .1 .inside) (start .pre .0 .room)
+  row-room : (j : ℕ) → j < 2 * (start .args .m + 1)
+      → j * c .before .power-of-two .result + start .args .p < length (now (start .args .work))
+  row-room j h =
+      place (start .args .m) j (start .args .p) _ _ (c .before .power-of-two .ensures) h (start .pre .1 .1 .inside)
+      (start .pre .0 .room)
 
-  room : start .args .k * c .before .power-of-two .result + start .args .p + c .power-of-two2 .result + c .power-of-two2 .result
-      ≤ length (now (start .args .work))
-  room = runs-room (c .before .power-of-two .ensures) (c .power-of-two2 .ensures) (start .pre .0) (start .pre .1 .0) (start .pre .1 .1)
+  room : let d = c .power-of-two2 .result in
+      start .args .k * c .before .power-of-two .result + start .args .p + d + d ≤ length (now (start .args .work))
+  room =
+      runs-room (c .before .power-of-two .ensures) (c .power-of-two2 .ensures) (start .pre .0) (start .pre .1 .0)
+      (start .pre .1 .1)
 
 module _ (c : tie.In-loop Inv-loop μ-loop) where
   abbrev at : tie.At-loop Inv-loop μ-loop
@@ -44,7 +58,8 @@ module _ (c : tie.In-loop Inv-loop μ-loop) where
   long = paired-length (at .loop .inv .3)
 
   reads : Readable (s .args .rule .ceiling) (s .args .p + at .loop .i) (at .before .power-of-two2 .result)
-      (s .args .x * at .before .before .power-of-two .result) (s .args .y * at .before .before .power-of-two .result) (at .loop .work)
+      (s .args .x * at .before .before .power-of-two .result) (s .args .y * at .before .before .power-of-two .result)
+      (at .loop .work)
   reads =
       let h = at .loop .inv in runs-readable (h .0) (h .1) (s .pre .0) (s .pre .1 .0) (s .pre .1 .1) inside (h .3)
 
@@ -76,10 +91,10 @@ add-q : tie.Need-add-q Inv-loop μ-loop
 add-q c = omega (arith, room (c .before .before))
 
 upper-message-requires : tie.Need-upper-message-requires Inv-loop μ-loop
-upper-message-requires c κs = (s (c .before) .pre .0 .tested, reads (c .before))
+upper-message-requires c κs = (s (c .before) .pre .0 .in-range, reads (c .before))
 
 lower-message-requires : tie.Need-lower-message-requires Inv-loop μ-loop
-lower-message-requires c κs = let i = c .before .before .before in (s i .pre .0 .tested, reads i)
+lower-message-requires c κs = let i = c .before .before .before in (s i .pre .0 .in-range, reads i)
 
 add-upper : tie.Need-add-upper Inv-loop μ-loop
 add-upper c = omega (arith, room (at (c .before .before .before .before) .before))
@@ -97,7 +112,8 @@ mul-lower : tie.Need-mul-lower Inv-loop μ-loop
 mul-lower c = omega (arith, room (at (c .before .before .before .before) .before))
 
 slice-set-from-lower : tie.Need-slice-set-from-lower Inv-loop μ-loop
-slice-set-from-lower c = let i = c .before .before .before .before in rw length-set (omega (arith, long i, room (at i .before)))
+slice-set-from-lower c =
+    let i = c .before .before .before .before in rw length-set (omega (arith, long i, room (at i .before)))
 
 add-i : tie.Need-add-i Inv-loop μ-loop
 add-i c = omega arith
@@ -113,7 +129,8 @@ loop-again c =
       h .1,
       omega arith,
       runs-next (h .0) (h .1) (s i .pre .0) (s i .pre .1 .0) (s i .pre .1 .1) (inside i) (h .3)
-          (told (c .before .before .upper-message .ok) (c .before .before .upper-message .ensures)) (told (c .lower-message .ok) (c .lower-message .ensures)),
+          (told (c .before .before .upper-message .ok) (c .before .before .upper-message .ensures))
+          (told (c .lower-message .ok) (c .lower-message .ensures)),
     )
 
 same-length : tie.Need-same-length Inv-loop μ-loop

@@ -4,7 +4,7 @@ use mathlib.Core.Path.{_≡_, refl, ap, _∙_}
 use native.Mathlib.Omega.{arith}
 use lib.ListN.{length}
 use Rattle.sweeps.specs.Iteration.{leftSteps}
-use Rattle.sweeps.specs.IterationLaws.{Ready, ready-left, length-left}
+use Rattle.sweeps.specs.IterationLaws.{WorkspaceValid, valid-left, length-left}
 use Rattle.sweeps.proofs.Steps.{left-rows, left-next}
 use Rattle.sweeps.proofs.left_sweep.Statement.{statement}
 use Rattle.sweeps.proofs.left_sweep.Tie as tie
@@ -27,19 +27,19 @@ sub-s-2 c = omega arith
 cast-s : tie.Need-cast-s Inv-loop μ-loop
 cast-s c = omega arith
 
-add-step : tie.Need-add-step Inv-loop μ-loop
-add-step c = omega arith
+add-row-step : tie.Need-add-row-step Inv-loop μ-loop
+add-row-step c = omega arith
 
-add-step-2 : tie.Need-add-step-2 Inv-loop μ-loop
-add-step-2 c = omega arith
+add-row-step-2 : tie.Need-add-row-step-2 Inv-loop μ-loop
+add-row-step-2 c = omega arith
 
-add-step-3 : tie.Need-add-step-3 Inv-loop μ-loop
-add-step-3 c = omega arith
+add-row-step-3 : tie.Need-add-row-step-3 Inv-loop μ-loop
+add-row-step-3 c = omega arith
 
-step-requires : tie.Need-step-requires Inv-loop μ-loop
-step-requires c κs =
+row-step-requires : tie.Need-row-step-requires Inv-loop μ-loop
+row-step-requires c κs =
     let at = c .before .before in
-    (rw (at .loop .inv .1) (ready-left (at .before .pre) (at .loop .t)), left-rows _ _ (omega arith))
+    (rw (at .loop .inv .1) (valid-left (at .before .pre) (at .loop .t)), left-rows _ _ (omega arith))
 
 add-t : tie.Need-add-t Inv-loop μ-loop
 add-t c = omega arith
@@ -50,7 +50,7 @@ loop-less c = omega arith
 loop-again : tie.Need-loop-again Inv-loop μ-loop
 loop-again c =
     let at = c .before .before .before .before in
-    (omega arith, left-next _ _ (omega arith) _ _ _ _ (at .loop .inv .1) (c .before .step .ensures))
+    (omega arith, left-next _ _ (omega arith) _ _ _ _ (at .loop .inv .1) (c .before .row-step .ensures))
 
 same-length : tie.Need-same-length Inv-loop μ-loop
 same-length c = ap length (c .before .loop .inv .1) ∙ length-left _ _ (c .before .loop .t) _
@@ -68,10 +68,10 @@ left-sweep-spec =
     sub-s
     sub-s-2
     cast-s
-    add-step
-    add-step-2
-    add-step-3
-    step-requires
+    add-row-step
+    add-row-step-2
+    add-row-step-3
+    row-step-requires
     add-t
     loop-less
     loop-again

@@ -7,17 +7,21 @@ use mir.Syntax.{w16}
 use mir.Val.{toZ, ofZ}
 use Rattle.message.specs.Message.{f}
 use Rattle.message.specs.MessageLaws.{f-size}
-use Rattle.message.proofs.Machine.{told}
-use Rattle.sweeps.specs.Working.{messageAt}
+use Rattle.calls.proofs.Signed.{told}
+use Rattle.sweeps.specs.Private.{messageAt}
 use Rattle.sweeps.proofs.lower_message.Statement.{statement}
 use Rattle.sweeps.proofs.lower_message.Tie as tie
 
 -- f of the upper position's two messages
 part-is : (c : tie.After-min-sum) → let a = c .before .before .before .args in
-    toZ w16 (ofZ w16 (c .min-sum .result)) ≡ f (a .rule) (messageAt (a .work .now) (a .x + a .p)) (messageAt (a .work .now) (a .y + a .p))
+    toZ w16 (ofZ w16 (c .min-sum .result))
+    ≡ f (a .rule) (messageAt (a .work .now) (a .x + a .p)) (messageAt (a .work .now) (a .y + a .p))
 part-is c =
     told (c .min-sum .ok) (c .min-sum .ensures)
-    ∙ simp (told (c .before .before .get .ok) (c .before .before .get .ensures), told (c .before .get2 .ok) (c .before .get2 .ensures))
+    ∙ simp (
+      told (c .before .before .get .ok) (c .before .before .get .ensures),
+      told (c .before .get2 .ok) (c .before .get2 .ensures),
+    )
 
 get-requires : tie.Need-get-requires
 get-requires c κs = search needs

@@ -2,8 +2,8 @@
 use mathlib.Core.Path.{_≡_, _∙_}
 use native.Mathlib.Omega.{arith}
 use borrow.Author.Needs.{needs}
-use Rattle.message.proofs.Machine.{told}
-use Rattle.sweeps.specs.Working.{newAt}
+use Rattle.calls.proofs.Signed.{told}
+use Rattle.sweeps.specs.Private.{newAt}
 use Rattle.sweeps.proofs.new_message.Statement.{statement}
 use Rattle.sweeps.proofs.new_message.Tie as tie
 
@@ -43,7 +43,8 @@ combine-requires c κs =
     let r = s .pre .1 in (
       s .pre .0,
       (
-        rw (told (c .before .before .before .before .get .ok) (c .before .before .before .before .get .ensures)) (r .own),
+        rw (told (c .before .before .before .before .get .ok) (c .before .before .before .before .get .ensures))
+            (r .own),
         rw (told (c .before .before .before .get2 .ok) (c .before .before .before .get2 .ensures)) (r .x-after),
         rw (told (c .before .before .get3 .ok) (c .before .before .get3 .ensures)) (r .y-after),
         rw (told (c .before .get4 .ok) (c .before .get4 .ensures)) (r .x-before),

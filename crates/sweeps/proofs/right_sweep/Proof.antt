@@ -4,7 +4,7 @@ use mathlib.Core.Path.{_≡_, refl, ap, _∙_}
 use native.Mathlib.Omega.{arith}
 use lib.ListN.{length}
 use Rattle.sweeps.specs.Iteration.{rightSteps}
-use Rattle.sweeps.specs.IterationLaws.{Ready, ready-right, length-right}
+use Rattle.sweeps.specs.IterationLaws.{WorkspaceValid, valid-right, length-right}
 use Rattle.sweeps.proofs.Steps.{right-rows, right-next}
 use Rattle.sweeps.proofs.right_sweep.Statement.{statement}
 use Rattle.sweeps.proofs.right_sweep.Tie as tie
@@ -21,34 +21,34 @@ loop-holds c = (zero-le, refl)
 cast-s : tie.Need-cast-s Inv-loop μ-loop
 cast-s c = omega arith
 
-sub-step : tie.Need-sub-step Inv-loop μ-loop
-sub-step c = omega arith
+sub-row-step : tie.Need-sub-row-step Inv-loop μ-loop
+sub-row-step c = omega arith
 
-sub-step-2 : tie.Need-sub-step-2 Inv-loop μ-loop
-sub-step-2 c = omega arith
+sub-row-step-2 : tie.Need-sub-row-step-2 Inv-loop μ-loop
+sub-row-step-2 c = omega arith
 
-add-step : tie.Need-add-step Inv-loop μ-loop
-add-step c = omega arith
+add-row-step : tie.Need-add-row-step Inv-loop μ-loop
+add-row-step c = omega arith
 
-add-step-2 : tie.Need-add-step-2 Inv-loop μ-loop
-add-step-2 c = omega arith
+add-row-step-2 : tie.Need-add-row-step-2 Inv-loop μ-loop
+add-row-step-2 c = omega arith
 
-add-step-3 : tie.Need-add-step-3 Inv-loop μ-loop
-add-step-3 c = omega arith
+add-row-step-3 : tie.Need-add-row-step-3 Inv-loop μ-loop
+add-row-step-3 c = omega arith
 
-add-step-4 : tie.Need-add-step-4 Inv-loop μ-loop
-add-step-4 c = omega arith
+add-row-step-4 : tie.Need-add-row-step-4 Inv-loop μ-loop
+add-row-step-4 c = omega arith
 
-add-step-5 : tie.Need-add-step-5 Inv-loop μ-loop
-add-step-5 c = omega arith
+add-row-step-5 : tie.Need-add-row-step-5 Inv-loop μ-loop
+add-row-step-5 c = omega arith
 
-add-step-6 : tie.Need-add-step-6 Inv-loop μ-loop
-add-step-6 c = omega arith
+add-row-step-6 : tie.Need-add-row-step-6 Inv-loop μ-loop
+add-row-step-6 c = omega arith
 
-step-requires : tie.Need-step-requires Inv-loop μ-loop
-step-requires c κs =
+row-step-requires : tie.Need-row-step-requires Inv-loop μ-loop
+row-step-requires c κs =
     let at = c .before .before in
-    (rw (at .loop .inv .1) (ready-right (at .before .pre) (at .loop .t)), right-rows _ _ (omega arith))
+    (rw (at .loop .inv .1) (valid-right (at .before .pre) (at .loop .t)), right-rows _ _ (omega arith))
 
 add-t : tie.Need-add-t Inv-loop μ-loop
 add-t c = omega arith
@@ -59,7 +59,7 @@ loop-less c = omega arith
 loop-again : tie.Need-loop-again Inv-loop μ-loop
 loop-again c =
     let at = c .before .before .before .before in
-    (omega arith, right-next _ _ (omega arith) _ _ _ _ (at .loop .inv .1) (c .before .step .ensures))
+    (omega arith, right-next _ _ (omega arith) _ _ _ _ (at .loop .inv .1) (c .before .row-step .ensures))
 
 same-length : tie.Need-same-length Inv-loop μ-loop
 same-length c = ap length (c .before .loop .inv .1) ∙ length-right _ _ (c .before .loop .t) _
@@ -75,15 +75,15 @@ right-sweep-spec =
     μ-loop
     loop-holds
     cast-s
-    sub-step
-    sub-step-2
-    add-step
-    add-step-2
-    add-step-3
-    add-step-4
-    add-step-5
-    add-step-6
-    step-requires
+    sub-row-step
+    sub-row-step-2
+    add-row-step
+    add-row-step-2
+    add-row-step-3
+    add-row-step-4
+    add-row-step-5
+    add-row-step-6
+    row-step-requires
     add-t
     loop-less
     loop-again

@@ -33,7 +33,12 @@ power-of-two-requires : tie.Need-power-of-two-requires Inv-loop μ-loop
 power-of-two-requires c κs = omega arith
 
 mul-at : tie.Need-mul-at Inv-loop μ-loop
-mul-at c = omega (arith, place (c .before .args .m) (c .before .args .m) 0 _ _ (c .power-of-two .ensures) (omega arith) (pow-pos (c .before .args .m)) (c .before .pre .2))
+mul-at c =
+    omega (
+      arith,
+      place (c .before .args .m) (c .before .args .m) 0 _ _ (c .power-of-two .ensures) (omega arith)
+          (pow-pos (c .before .args .m)) (c .before .pre .2),
+    )
 
 loop-holds : tie.Need-loop-holds Inv-loop μ-loop
 loop-holds c = (c .power-of-two .ensures, zero-le, row-none)
@@ -70,7 +75,8 @@ loop-again c =
       loop .loop .inv .0,
       omega arith,
       subst (λ (n : ℕ). RowPart (s .args .m) (s .args .m) (i + 1) (λ j. getD llr j (pos 0)) (now (s .args .work))
-          (set (loop .loop .work) (s .args .m * n + i) (toZ w16 (ofZ w16 (getD llr i (pos 0)))))) (sym (loop .loop .inv .0))
+          (set (loop .loop .work) (s .args .m * n + i) (toZ w16 (ofZ w16 (getD llr i (pos 0))))))
+          (sym (loop .loop .inv .0))
           (row-next (loop .loop .inv .2) (s .pre .2) (omega arith) (omega arith) back),
     )
 

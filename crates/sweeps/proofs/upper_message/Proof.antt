@@ -6,8 +6,8 @@ use mir.Syntax.{w16}
 use mir.Val.{toZ, ofZ}
 use Rattle.message.specs.Message.{add}
 use Rattle.message.specs.MessageLaws.{add-size}
-use Rattle.message.proofs.Machine.{told}
-use Rattle.sweeps.specs.Working.{messageAt}
+use Rattle.calls.proofs.Signed.{told}
+use Rattle.sweeps.specs.Private.{messageAt}
 use Rattle.sweeps.proofs.upper_message.Statement.{statement}
 use Rattle.sweeps.proofs.upper_message.Tie as tie
 
@@ -17,7 +17,10 @@ sum-is : (c : tie.After-add-cut) → let a = c .before .before .before .args in
     ≡ add (a .rule) (messageAt (a .work .now) (a .x + (a .p + a .d))) (messageAt (a .work .now) (a .y + (a .p + a .d)))
 sum-is c =
     told (c .add-cut .ok) (c .add-cut .ensures)
-    ∙ simp (told (c .before .before .get .ok) (c .before .before .get .ensures), told (c .before .get2 .ok) (c .before .get2 .ensures))
+    ∙ simp (
+      told (c .before .before .get .ok) (c .before .before .get .ensures),
+      told (c .before .get2 .ok) (c .before .get2 .ensures),
+    )
 
 add-get : tie.Need-add-get
 add-get c = search needs

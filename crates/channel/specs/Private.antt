@@ -1,4 +1,5 @@
--- What the front's own steps compute, in the shape of the code. A reader of the front's contract needs none of it.
+-- Definitions for the contracts of private functions: what the front's own steps compute, in the shape of the code. A
+-- reader of the front's contract needs none of it. Definitions only.
 use Prim.Native.Nat.{ℕ, zero, suc, _+_, _*_, _^_}
 use mathlib.Core.Bool.{cond}
 use lib.IntN.{ℤ, pos, negℤ}

@@ -1,5 +1,6 @@
--- What the steps of the code compute, in the shape of the code: both sweeps take their steps by one formula over two rows, in flat places of
--- the workspace. A reader of the contracts of `begin` and `iterate` needs none of it.
+-- Definitions for the contracts of private functions: what the steps of the code compute, in the shape of the code.
+-- Both sweeps take their steps by one formula over two rows, in flat places of the workspace. A reader of the contracts
+-- of `begin` and `iterate` needs none of it. Definitions only.
 use Prim.Native.Nat.{ℕ, suc, _+_, _-_, _*_, _^_, _≤_, _<_}
 use mathlib.Core.Path.{_≡_}
 use mathlib.Core.Bool.{cond}
@@ -44,8 +45,8 @@ pub record Readable (C p d x y : ℕ) (w : List ℤ) : Type 0 where
   pub x-before : natAbs (messageAt w (x - d + p)) ≤ C
   pub y-before : natAbs (messageAt w (y - d + p)) ≤ C
 
--- the formula of both sweeps over the two columns that a step reads: L(s, .) is joined of L(s + 1, .) and R(s, .), and R(s + 1, .) of R(s, .)
--- and L(s + 1, .)
+-- the formula of both sweeps over the two columns that a step reads: L(s, .) is joined of L(s + 1, .) and R(s, .), and
+-- R(s + 1, .) of R(s, .) and L(s + 1, .)
 abbrev pub joinedAt : MinSum → ℕ → (ℕ → ℤ) → (ℕ → ℤ) → ℕ → ℤ
 joinedAt rule t x y p =
     bySide (digit t p)

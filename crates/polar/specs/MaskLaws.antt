@@ -1,0 +1,33 @@
+-- Laws of the mask's bytes: what `byKind` gives at an information position and at a frozen one.
+use Prim.Native.Nat.{ℕ, zero, suc}
+use mathlib.Core.Path.{_≡_, refl}
+use mathlib.Core.Bool.{Bool, true, false, true≢false, false≢true}
+use lib.Dec.{eqb, eqb·suc-zero}
+use Rattle.polar.specs.Mask.{Kind, information, frozen, kindOf, onKind, byKind, isInformation, frozenBit}
+
+module _ {A : Type 0} (atInformation : A) (atFrozen : Bool → A) where
+  pub kind-information : (byte : ℕ) → isInformation byte ≡ true → byKind byte atInformation atFrozen ≡ atInformation
+  kind-information byte = go (kindOf byte)
+    where
+      go : (k : Kind) → onKind k true (λ bit. false) ≡ true → onKind k atInformation atFrozen ≡ atInformation
+      go information e = refl
+      go (frozen bit) e = absurd (false≢true e)
+
+  pub kind-frozen : (byte : ℕ) → isInformation byte ≡ false
+      → byKind byte atInformation atFrozen ≡ atFrozen (frozenBit byte)
+  kind-frozen byte = go (kindOf byte)
+    where
+      go : (k : Kind) → onKind k true (λ bit. false) ≡ false
+          → onKind k atInformation atFrozen ≡ atFrozen (onKind k false (λ bit. bit))
+      go information e = absurd (true≢false e)
+      go (frozen bit) e = refl
+
+-- 0 is the one byte of an information position
+pub information-is-zero : (byte : ℕ) → eqb byte 0 ≡ isInformation byte
+information-is-zero zero = refl
+information-is-zero (suc n) = eqb·suc-zero n
+
+-- every frozen position is frozen to 0
+pub frozen-bit-zero : (byte : ℕ) → frozenBit byte ≡ false
+frozen-bit-zero zero = refl
+frozen-bit-zero (suc n) = refl
