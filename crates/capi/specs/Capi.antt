@@ -5,7 +5,7 @@ use mathlib.Core.List.{List, [], _∷_}
 use lib.Dec.{leb}
 use lib.IntN.{ℤ}
 use lib.ListN.{length, getD}
-use Rattle.calls.specs.Numbers.{check, andThen}
+use Rattle.calls.specs.Numbers.{check, firstRefusal}
 use Rattle.calls.specs.Memory.{overwrite, unlessRefused}
 use Rattle.polar.specs.declared.Code.{Code}
 use Rattle.settings.specs.declared.Settings.{Settings}
@@ -40,7 +40,7 @@ settingsListNumber settings = check (leb 6 (length settings)) 7 0
 
 -- 7, for a tally with fewer than five elements or for the settings; 15, which comes after both
 abbrev pub talliedNumber : List ℕ → List ℕ → ℕ
-talliedNumber tally settings = check (leb 5 (length tally)) 7 (andThen (settingsListNumber settings) (tallyNumber (tallyIn tally)))
+talliedNumber tally settings = check (leb 5 (length tally)) 7 (firstRefusal (settingsListNumber settings) (tallyNumber (tallyIn tally)))
 
 -- ---- the number that is returned for an answer, and what the two numbers lent for iteration and reason hold afterwards
 

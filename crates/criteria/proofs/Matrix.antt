@@ -10,12 +10,14 @@ use lib.Dec.{eqb}
 use lib.ListN.{length, getD}
 use Rattle.calls.specs.Memory.{overwrite}
 use Rattle.calls.specs.MemoryLaws.{length-overwrite, overwrite-at}
-use Rattle.polar.specs.Code.{byteOf, bitOf, coded}
+use Rattle.calls.specs.Bits.{byteOf, bitOf}
+use Rattle.polar.specs.Code.{coded}
 use Rattle.polar.specs.BlockLaws.{bitsOf, Bits}
 use Rattle.polar.specs.TransformLaws.{coded-same}
-use Rattle.criteria.specs.Criteria.{every, untied, gMatrix}
+use Rattle.calls.specs.Every.{every}
+use Rattle.criteria.specs.Criteria.{untied, gMatrix}
 use Rattle.criteria.specs.Private.{MarkBytes}
-use Rattle.criteria.specs.EveryLaws.{every-at, every-same}
+use Rattle.calls.specs.EveryLaws.{every-at, every-same}
 
 pub tie-fails : (m : ℕ) (mark codedMark : ℕ → ℕ) → untied (2 ^ m) mark ≡ false → false ≡ gMatrix m mark codedMark
 tie-fails m mark codedMark e = rw e

@@ -8,10 +8,10 @@ use native.Mathlib.Omega.{arith}
 use borrow.Author.Tests.{le-leb, lt-leb, leb-true, leb-false}
 use lib.Dec.{leb}
 use lib.IntN.{ℤ, natAbs}
-use Rattle.polar.specs.Code.{byKind}
+use Rattle.polar.specs.Mask.{byKind}
 use Rattle.criteria.specs.Criteria.{leastSize}
 use Rattle.criteria.specs.Memory.{steadyNext}
-use Rattle.criteria.specs.EveryLaws.{every-next}
+use Rattle.calls.specs.EveryLaws.{every-next}
 
 -- a bound is at most the smaller of two where it is at most both
 min-leb : (o a b : ℕ) → leb o (min a b) ≡ leb o a && leb o b
@@ -27,7 +27,7 @@ pub least-next : (soft : ℕ → ℤ) (operand i least size : ℕ) → leb opera
 least-next soft operand i least size h e =
     min-leb operand least size ∙ every-next i (λ i. leb operand (natAbs (soft i))) h (ap (leb operand) e)
 
-pub frozen-kind : (kind : ℕ) (same : Bool) → (kind ≡ 0 → ⊥) → true ≡ byKind kind same true
+pub frozen-kind : (kind : ℕ) (same : Bool) → (kind ≡ 0 → ⊥) → true ≡ byKind kind same (λ bit. true)
 frozen-kind zero same h = absurd (h refl)
 frozen-kind (suc kind) same h = refl
 

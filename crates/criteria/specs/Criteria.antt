@@ -5,7 +5,9 @@ use mathlib.Core.List.{List}
 use lib.Dec.{leb, eqb}
 use lib.IntN.{ℤ, natAbs}
 use lib.ListN.{getD}
-use Rattle.polar.specs.Code.{bitOf, byKind, coded}
+use Rattle.calls.specs.Bits.{bitOf}
+use Rattle.polar.specs.Mask.{byKind}
+use Rattle.polar.specs.Code.{coded}
 use Rattle.criteria.specs.declared.Criterion.{Criterion}
 use Rattle.criteria.specs.declared.Criterion.the-variants.{Never, GMatrix, LeastSize, Steady}
 use Rattle.criteria.specs.Marks.{markOf}
@@ -29,7 +31,7 @@ leastSize n operand soft = every n (λ i. leb operand (natAbs (soft i)))
 
 -- 3, steady: the marks at information positions equalled those of the iteration before
 abbrev pub sameMarks : ℕ → List ℕ → (ℕ → ℕ) → (ℕ → ℕ) → Bool
-sameMarks n mask before now = every n (λ i. byKind (getD mask i 0) (eqb (before i) (now i)) true)
+sameMarks n mask before now = every n (λ i. byKind (getD mask i 0) (eqb (before i) (now i)) (λ bit. true))
 
 -- .. at each of the last W iterations; not before iteration W + 1
 abbrev pub steady : ℕ → (ℕ → Bool) → ℕ → Bool

@@ -10,15 +10,18 @@ use lib.IntN.{ℤ, pos, negsuc, natAbs}
 use lib.ListN.{getD}
 use Rattle.calls.specs.Signs.{flipped}
 use Rattle.calls.specs.SignLaws.{size-flipped}
-use Rattle.polar.specs.Code.{xor, bitOf, byKind, coded}
+use Rattle.calls.specs.Bits.{xor, bitOf}
+use Rattle.polar.specs.Mask.{byKind}
+use Rattle.polar.specs.Code.{coded}
 use Rattle.polar.specs.TransformLaws.{coded-xor, coded-same}
 use Rattle.criteria.specs.declared.Criterion.{Criterion}
 use Rattle.criteria.specs.declared.Criterion.the-variants.{Never, GMatrix, LeastSize, Steady}
 use Rattle.criteria.specs.Marks.{markOf}
-use Rattle.criteria.specs.Criteria.{every, untied, gMatrix, leastSize, sameMarks, steady, holds}
+use Rattle.calls.specs.Every.{every}
+use Rattle.criteria.specs.Criteria.{untied, gMatrix, leastSize, sameMarks, steady, holds}
 use Rattle.criteria.specs.Memory.{keptMarks}
 use Rattle.calls.specs.NumberLaws.{and-passed}
-use Rattle.criteria.specs.EveryLaws.{every-same, every-at, where-true}
+use Rattle.calls.specs.EveryLaws.{every-same, every-at, where-true}
 
 pub mark-le : (z : ℤ) → markOf z ≤ 2
 mark-le (pos zero) = omega arith
@@ -45,7 +48,7 @@ least-size-same n operand soft soft′ h = every-same n _ _ (λ i l. ap (λ (z :
 pub same-marks-same : (n : ℕ) (mask : List ℕ) (before before′ now now′ : ℕ → ℕ) → ((i : ℕ) → i < n → before i ≡ before′ i)
     → ((i : ℕ) → i < n → now i ≡ now′ i) → sameMarks n mask before now ≡ sameMarks n mask before′ now′
 same-marks-same n mask before before′ now now′ h k =
-    every-same n _ _ (λ i l. ap₂ (λ (x y : ℕ). byKind (getD mask i 0) (eqb x y) true) (h i l) (k i l))
+    every-same n _ _ (λ i l. ap₂ (λ (x y : ℕ). byKind (getD mask i 0) (eqb x y) (λ bit. true)) (h i l) (k i l))
 
 pub steady-same : (W t : ℕ) (same same′ : ℕ → Bool) → ((j : ℕ) → same j ≡ same′ j) → steady W same t ≡ steady W same′ t
 steady-same W t same same′ h = ap (λ (s : ℕ → Bool). steady W s t) (fun-ext h)
@@ -99,7 +102,7 @@ module _ (n : ℕ) (b : ℕ → Bool) (soft soft′ : ℕ → ℤ) (flips : (i :
       → sameMarks n mask (λ i. markOf (before′ i)) (λ i. markOf (soft′ i)) ≡ sameMarks n mask (λ i. markOf (before i)) (λ i. markOf (soft i))
   same-marks-flipped mask before before′ h =
       every-same n _ _ (λ i l.
-      ap (λ (x : Bool). byKind (getD mask i 0) x true) (rw (h i l, flips i l) (pair-flipped (b i) (before i) (soft i))))
+      ap (λ (x : Bool). byKind (getD mask i 0) x (λ bit. true)) (rw (h i l, flips i l) (pair-flipped (b i) (before i) (soft i))))
 
 -- where a mark or a coded mark is tied the criterion fails before and after; elsewhere both sides of the comparison turn by the coded bit
 module _ (m : ℕ) (u : ℕ → Bool) (soft soft′ codedSoft codedSoft′ : ℕ → ℤ)

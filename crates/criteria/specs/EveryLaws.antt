@@ -7,7 +7,7 @@ use native.Mathlib.Nat.{eq-or-lt-of-le, le-of-suc-le-suc}
 use native.Mathlib.Numerals.{add-one}
 use native.Mathlib.Omega.{arith}
 use Rattle.calls.specs.NumberLaws.{and-passed}
-use Rattle.criteria.specs.Criteria.{every}
+use Rattle.calls.specs.Every.{every}
 
 -- what stands behind a test matters only where the test passes
 pub where-true : (a b c : Bool) → (a ≡ true → b ≡ c) → a && b ≡ a && c

@@ -14,10 +14,20 @@ use Rattle.criteria.specs.declared.Criterion.{Criterion}
 use Rattle.criteria.specs.declared.Criterion.the-variants.{Never, GMatrix, LeastSize, Steady}
 use Rattle.criteria.specs.declared.Memory.{Memory}
 use Rattle.criteria.specs.Marks.{markOf}
-use Rattle.criteria.specs.Criteria.{every, sameMarks, steady, holds}
-use Rattle.criteria.specs.Memory.{steadyCount, steadyNext, keptMarks, countFor, nothing, memoryAfter, memoryNext, holdsNow}
+use Rattle.calls.specs.Every.{every}
+use Rattle.criteria.specs.Criteria.{sameMarks, steady, holds}
+use Rattle.criteria.specs.Memory.{
+  steadyCount,
+  steadyNext,
+  keptMarks,
+  countFor,
+  nothing,
+  memoryAfter,
+  memoryNext,
+  holdsNow,
+}
 use Rattle.criteria.specs.Private.{MemoryInRange}
-use Rattle.criteria.specs.EveryLaws.{every-same, every-first}
+use Rattle.calls.specs.EveryLaws.{every-same, every-first}
 use Rattle.criteria.specs.CriteriaLaws.{g-matrix-same, least-size-same, same-marks-same}
 
 -- ---- the steady count

@@ -7,10 +7,11 @@ ghost use Prim.Native.Nat.{_+_, _<_, _≤_, _^_, min};
 ghost use lib.Dec.{eqb};
 ghost use lib.IntN.{pos, natAbs};
 ghost use lib.ListN.{length, getD};
-ghost use Rattle.polar.specs.Code.{byKind};
+ghost use Rattle.polar.specs.Mask.{byKind};
 ghost use Rattle.calls.specs.Memory.{overwrite};
 ghost use Rattle.criteria.specs.Marks.{markOf};
-ghost use Rattle.criteria.specs.Criteria.{every, untied, gMatrix, leastSize, sameMarks};
+ghost use Rattle.calls.specs.Every.{every};
+ghost use Rattle.criteria.specs.Criteria.{untied, gMatrix, leastSize, sameMarks};
 ghost use Rattle.criteria.specs.Memory.{steadyNext, countFor, nothing, memoryNext, holdsNow};
 ghost use Rattle.criteria.specs.Private.{SoftValues, MarkBytes, MemoryInRange, CriterionTried};
 
@@ -103,7 +104,7 @@ pub fn least_size(operand: u16, soft: &[i16], n: usize) -> bool
 
 // Whether a position allows criterion 3: it is frozen, or its mark is that of the iteration before.
 fn keeps_mark(kind: u8, before: u8, now: u8) -> bool
-    ensures { λ r. ⌜ r ≡ byKind kind (eqb before now) true ⌝ }
+    ensures { λ r. ⌜ r ≡ byKind kind (eqb before now) (λ bit. true) ⌝ }
 {
     kind != 0 || before == now
 }

@@ -7,10 +7,10 @@ use native.Mathlib.Omega.{arith}
 use lib.IntN.{ℤ}
 use borrow.Author.Tests.{eqb-true}
 use Rattle.calls.specs.declared.Refusal.{Refusal}
-use Rattle.calls.specs.Numbers.{refusalNumber, andThen}
+use Rattle.calls.specs.Numbers.{refusalNumber, firstRefusal}
 use Rattle.calls.specs.NumberLaws.{refused-first, refused-keeps, between-passed}
-use Rattle.message.specs.MessageLaws.{Tested}
-use Rattle.sweeps.specs.IterationLaws.{Ready, ready-start}
+use Rattle.message.specs.MessageLaws.{RuleInRange}
+use Rattle.sweeps.specs.IterationLaws.{WorkspaceValid, valid-start}
 use Rattle.settings.specs.declared.Settings.{Settings}
 use Rattle.settings.specs.Settings.{operandFits}
 use Rattle.settings.specs.SettingsLaws.{Accepted}
@@ -21,7 +21,7 @@ use Rattle.decoder.specs.Decoder.{ruleOf, Ending, ending, resultBy, refu
 use Rattle.decoder.specs.Run.{endOf, limitOf, EndsAs}
 use Rattle.decoder.specs.RunLaws.{never-ends, startOf, run-from-start, work-from-start}
 
-by-refusal : (n : ℕ) (e : Ending) → ((next : ℕ) → andThen n next ≡ n) → refused n ≡ resultBy n e
+by-refusal : (n : ℕ) (e : Ending) → ((next : ℕ) → firstRefusal n next ≡ n) → refused n ≡ resultBy n e
 by-refusal zero e h = let no : _≡_ {A = ℕ} 1 0 = h 1 in absurd (omega arith)
 by-refusal (suc n) e h = refl
 
@@ -39,16 +39,16 @@ module _ (s : Settings) (mask : List ℕ) (llr : List ℤ) (lent : Slices) where
   }
 
   module _ (ok : callNumber s mask llr lent ≡ 0) where
-    pub begun-valid : Accepted s mask llr (lengthsOf lent) → (w : List ℤ) → w ≡ startOf s mask llr (lent .work) → Ready (ruleOf s) (s .m) w
+    pub begun-valid : Accepted s mask llr (lengthsOf lent) → (w : List ℤ) → w ≡ startOf s mask llr (lent .work) → WorkspaceValid (ruleOf s) (s .m) w
     begun-valid accepted w is =
         let a = accepted .settings in
-        let tested : Tested (ruleOf s) = record {
+        let tested : RuleInRange (ruleOf s) = record {
           some = a .ceiling-some;
           ceiling-le = a .ceiling-le;
           scale-some = a .scale-some;
           scale-le = a .scale-le;
         } in
-        rw is (ready-start {rule = ruleOf s} mask llr (lent .work) tested (a .m-some) (a .m-le) (accepted .slices .work-long) (accepted .within))
+        rw is (valid-start {rule = ruleOf s} mask llr (lent .work) tested (a .m-some) (a .m-le) (accepted .slices .work-long) (accepted .within))
 
     -- a run that begins where the start has been written
     pub decoded-run : (w : List ℤ) (x : Slices) (r : Outcome) → w ≡ startOf s mask llr (lent .work)

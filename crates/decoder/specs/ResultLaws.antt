@@ -6,7 +6,7 @@ use mathlib.Core.List.{List}
 use native.Mathlib.Omega.{arith}
 use lib.Dec.{lit≤}
 use lib.IntN.{ℤ}
-use Rattle.calls.specs.Numbers.{check, andThen}
+use Rattle.calls.specs.Numbers.{check, firstRefusal}
 use Rattle.settings.specs.declared.Settings.{Settings}
 use Rattle.settings.specs.Settings.{largestLimit, settingsNumber}
 use Rattle.settings.specs.Slices.{Slices, lengthsOf}
@@ -47,7 +47,7 @@ check-le : {most : ℕ} (test : Bool) (number next : ℕ) → number ≤ most �
 check-le true number next h k = k
 check-le false number next h k = h
 
-then-le : {most : ℕ} (first next : ℕ) → first ≤ most → next ≤ most → andThen first next ≤ most
+then-le : {most : ℕ} (first next : ℕ) → first ≤ most → next ≤ most → firstRefusal first next ≤ most
 then-le zero next h k = k
 then-le (suc number) next h k = h
 

@@ -11,7 +11,7 @@ use lib.IntN.{ℤ}
 use lib.ListN.{length, getD}
 use Rattle.calls.specs.MemoryLaws.{overwrite-at}
 use Rattle.sweeps.specs.Iteration.{iteration, start}
-use Rattle.sweeps.specs.IterationLaws.{Ready, ready-iterations, length-iterations}
+use Rattle.sweeps.specs.IterationLaws.{WorkspaceValid, valid-iterations, length-iterations}
 use Rattle.criteria.specs.declared.Memory.{Memory}
 use Rattle.criteria.specs.declared.Progress.{Progress}
 use Rattle.criteria.specs.Memory.{nothing}
@@ -37,8 +37,8 @@ run-begins s mask w = record {
 -- ---- t iterations
 
 module _ {s : Settings} {mask : List ℕ} {w : List ℤ} {t : ℕ} {memory : Memory} {now : List ℤ} (h : RunGoesOn s mask w t memory now) where
-  pub run-valid : Ready (ruleOf s) (s .m) w → Ready (ruleOf s) (s .m) now
-  run-valid valid = rw (h .work-is) (ready-iterations valid t)
+  pub run-valid : WorkspaceValid (ruleOf s) (s .m) w → WorkspaceValid (ruleOf s) (s .m) now
+  run-valid valid = rw (h .work-is) (valid-iterations valid t)
 
   pub run-memory : t < 1000 → MemoryInRange memory
   run-memory few = memory-in-range (s .m) (criterionOf s) mask (softAfter s mask w) (codedSoftAfter s mask w) t (h .memory-is) few

@@ -6,9 +6,9 @@ ghost use Prim.Native.Nat.{_<_, _≤_, _^_};
 ghost use lib.IntN.{natAbs};
 ghost use lib.ListN.{length};
 ghost use Rattle.calls.specs.Memory.{overwrite};
-ghost use Rattle.message.specs.MessageLaws.{Tested};
+ghost use Rattle.message.specs.MessageLaws.{RuleInRange};
 ghost use Rattle.sweeps.specs.Iteration.{iteration, iterations};
-ghost use Rattle.sweeps.specs.IterationLaws.{Ready};
+ghost use Rattle.sweeps.specs.IterationLaws.{WorkspaceValid};
 ghost use Rattle.criteria.specs.Private.{MemoryInRange};
 ghost use Rattle.settings.specs.Settings.{largestLimit};
 ghost use Rattle.settings.specs.Slices.{slices};
@@ -80,7 +80,7 @@ fn criterion_of(settings: Settings) -> Criterion
 
 // The soft output of a position from its mask byte and the messages of both directions. The mask byte makes no difference yet.
 fn soft_output(rule: MinSum, _kind: u8, left: i16, right: i16) -> i16
-    requires { ⌜ Tested rule ⌝ }
+    requires { ⌜ RuleInRange rule ⌝ }
     requires { ⌜ (natAbs left ≤ rule .ceiling) × (natAbs right ≤ rule .ceiling) ⌝ }
     ensures { λ r. ⌜ r ≡ softOf rule «_kind» left right ⌝ }
 {
@@ -89,7 +89,7 @@ fn soft_output(rule: MinSum, _kind: u8, left: i16, right: i16) -> i16
 
 // The soft outputs of a workspace, from column 0.
 fn soft_outputs(settings: Settings, mask: &[u8], work: &[i16], soft: &mut [i16])
-    requires { ⌜ Ready (ruleOf settings) (settings .m) (now work) ⌝ }
+    requires { ⌜ WorkspaceValid (ruleOf settings) (settings .m) (now work) ⌝ }
     requires { ⌜ (2 ^ settings .m ≤ length (now mask)) × (2 ^ settings .m ≤ length (now soft)) ⌝ }
     ensures { λ _. ⌜ now (soft .exit)
         ≡ overwrite (2 ^ settings .m) (softAt settings (now (mask .entry)) (now (work .entry))) (now (soft .entry)) ⌝ }
@@ -112,7 +112,7 @@ fn soft_outputs(settings: Settings, mask: &[u8], work: &[i16], soft: &mut [i16])
 
 // The coded soft outputs of a workspace, from column m.
 fn coded_soft_outputs(settings: Settings, work: &[i16], coded_soft: &mut [i16])
-    requires { ⌜ Ready (ruleOf settings) (settings .m) (now work) ⌝ }
+    requires { ⌜ WorkspaceValid (ruleOf settings) (settings .m) (now work) ⌝ }
     requires { ⌜ 2 ^ settings .m ≤ length (now «coded_soft») ⌝ }
     ensures { λ _. ⌜ now («coded_soft» .exit)
         ≡ overwrite (2 ^ settings .m) (codedSoftAt settings (now (work .entry))) (now («coded_soft» .entry)) ⌝ }
@@ -135,7 +135,7 @@ fn coded_soft_outputs(settings: Settings, work: &[i16], coded_soft: &mut [i16])
 
 // The coded soft outputs of a workspace and their marks.
 fn coded_outputs(settings: Settings, work: &[i16], coded_soft: &mut [i16], coded_mark: &mut [u8])
-    requires { ⌜ Ready (ruleOf settings) (settings .m) (now work) ⌝ }
+    requires { ⌜ WorkspaceValid (ruleOf settings) (settings .m) (now work) ⌝ }
     requires { ⌜ (2 ^ settings .m ≤ length (now «coded_soft»)) × (2 ^ settings .m ≤ length (now «coded_mark»)) ⌝ }
     ensures { λ _. ⌜ now («coded_soft» .exit)
         ≡ overwrite (2 ^ settings .m) (codedSoftAt settings (now (work .entry))) (now («coded_soft» .entry)) ⌝ }
@@ -157,7 +157,7 @@ pub fn outputs(
     coded_soft: &mut [i16],
     coded_mark: &mut [u8],
 )
-    requires { ⌜ Ready (ruleOf settings) (settings .m) (now work) ⌝ }
+    requires { ⌜ WorkspaceValid (ruleOf settings) (settings .m) (now work) ⌝ }
     requires { ⌜ 2 ^ settings .m ≤ length (now mask) ⌝ }
     requires { ⌜ OutputsFit (2 ^ settings .m) (slices (now soft) (now mark) (now «coded_soft») (now «coded_mark») (now work)) ⌝ }
     ensures { λ _. ⌜ slices (now (soft .exit)) (now (mark .exit)) (now («coded_soft» .exit)) (now («coded_mark» .exit))
@@ -181,7 +181,7 @@ fn iterate(
     coded_mark: &mut [u8],
     work: &mut [i16],
 )
-    requires { ⌜ Ready (ruleOf settings) (settings .m) (now work) ⌝ }
+    requires { ⌜ WorkspaceValid (ruleOf settings) (settings .m) (now work) ⌝ }
     requires { ⌜ (2 ^ settings .m ≤ length (now mask)) × (2 ^ settings .m ≤ length (now soft))
         × (2 ^ settings .m ≤ length (now «coded_soft»)) × (2 ^ settings .m ≤ length (now «coded_mark»)) ⌝ }
     ensures { λ _. ⌜ now (work .exit) ≡ iteration (ruleOf settings) (settings .m) (now (work .entry)) ⌝ }
@@ -210,7 +210,7 @@ pub fn step(
     coded_mark: &mut [u8],
     work: &mut [i16],
 ) -> Progress
-    requires { ⌜ Ready (ruleOf settings) (settings .m) (now work) ⌝ }
+    requires { ⌜ WorkspaceValid (ruleOf settings) (settings .m) (now work) ⌝ }
     requires { ⌜ (settings .operand ≤ 2047) × MemoryInRange memory ⌝ }
     requires { ⌜ 2 ^ settings .m ≤ length (now mask) ⌝ }
     requires { ⌜ OutputsFit (2 ^ settings .m) (slices (now soft) (now mark) (now «coded_soft») (now «coded_mark») (now work)) ⌝ }
@@ -244,7 +244,7 @@ fn run(
     coded_mark: &mut [u8],
     work: &mut [i16],
 ) -> Outcome
-    requires { ⌜ Ready (ruleOf settings) (settings .m) (now work) ⌝ }
+    requires { ⌜ WorkspaceValid (ruleOf settings) (settings .m) (now work) ⌝ }
     requires { ⌜ (settings .operand ≤ 2047) × (1 ≤ settings .limit) × (settings .limit ≤ largestLimit) ⌝ }
     requires { ⌜ 2 ^ settings .m ≤ length (now mask) ⌝ }
     requires { ⌜ OutputsFit (2 ^ settings .m) (slices (now soft) (now mark) (now «coded_soft») (now «coded_mark») (now work)) ⌝ }
@@ -282,7 +282,7 @@ fn run(
 
 // As many iterations.
 fn iterate_times(rule: MinSum, m: u32, count: u32, work: &mut [i16])
-    requires { ⌜ Ready rule m (now work) ⌝ }
+    requires { ⌜ WorkspaceValid rule m (now work) ⌝ }
     ensures { λ _. ⌜ now (work .exit) ≡ iterations rule m count (now (work .entry)) ⌝ }
 {
     let mut t = 0;
@@ -302,7 +302,7 @@ fn run_to_limit(
     coded_mark: &mut [u8],
     work: &mut [i16],
 ) -> Outcome
-    requires { ⌜ Ready (ruleOf settings) (settings .m) (now work) ⌝ }
+    requires { ⌜ WorkspaceValid (ruleOf settings) (settings .m) (now work) ⌝ }
     requires { ⌜ 2 ^ settings .m ≤ length (now mask) ⌝ }
     requires { ⌜ OutputsFit (2 ^ settings .m) (slices (now soft) (now mark) (now «coded_soft») (now «coded_mark») (now work)) ⌝ }
     ensures { λ r. ⌜ EndsAs settings (now (mask .entry)) (limitOf settings)

@@ -14,17 +14,30 @@ use Rattle.calls.specs.Memory.{overwrite}
 use Rattle.calls.specs.MemoryLaws.{length-overwrite, overwrite-at}
 use Rattle.calls.specs.Signs.{flipped}
 use Rattle.calls.specs.SignLaws.{flipped-zero}
-use Rattle.polar.specs.Code.{xor, byKind, coded}
-use Rattle.polar.specs.Columns.{digit, step, column}
-use Rattle.polar.specs.BitLaws.{xor-comm, xor-cancel}
+use Rattle.calls.specs.Bits.{xor}
+use Rattle.polar.specs.Mask.{byKind}
+use Rattle.polar.specs.Code.{coded}
+use Rattle.polar.specs.Columns.{digit, columnStep, column}
+use Rattle.calls.specs.BitLaws.{xor-comm, xor-cancel}
 use Rattle.polar.specs.DigitLaws.{digit-cases, partner-lt}
 use Rattle.polar.specs.TransformLaws.{column-coded}
 use Rattle.message.specs.declared.MinSum.{MinSum}
 use Rattle.message.specs.Message.{add, f}
 use Rattle.message.specs.MessageLaws.{f-flipped, add-flipped}
 use Rattle.sweeps.specs.Workspace.{row, L, R, setRow, setL, setR, workspaceLength}
-use Rattle.sweeps.specs.WorkspaceLaws.{Room, row-lt, length-setRow, row-own, row-above, row-below}
-use Rattle.sweeps.specs.Iteration.{leftAt, rightAt, leftStep, rightStep, leftSteps, rightSteps, iteration, iterations, prior, start}
+use Rattle.sweeps.specs.WorkspaceLaws.{WorkspaceFits, row-lt, length-setRow, row-own, row-above, row-below}
+use Rattle.sweeps.specs.Iteration.{
+  leftAt,
+  rightAt,
+  leftStep,
+  rightStep,
+  leftSteps,
+  rightSteps,
+  iteration,
+  iterations,
+  prior,
+  start,
+}
 use Rattle.settings.specs.declared.Settings.{Settings}
 use Rattle.decoder.specs.Decoder.{ruleOf, softAt, codedSoftAt, after}
 
@@ -33,8 +46,8 @@ use Rattle.decoder.specs.Decoder.{ruleOf, softAt, codedSoftAt, after}
 -- a message of column s, in either direction, stands for the bit of column s at its position: w′ holds the messages of w, each flipped by
 -- its bit
 pub record Flipped (m : ℕ) (u : ℕ → Bool) (w w′ : List ℤ) : Type 0 where
-  pub room : Room m w
-  pub room′ : Room m w′
+  pub room : WorkspaceFits m w
+  pub room′ : WorkspaceFits m w′
   pub left : (s i : ℕ) → s ≤ m → i < 2 ^ m → L m w′ s i ≡ flipped (column m u s i) (L m w s i)
   pub right : (s i : ℕ) → s ≤ m → i < 2 ^ m → R m w′ s i ≡ flipped (column m u s i) (R m w s i)
 
@@ -47,7 +60,7 @@ row-other m k g w j i other hi = by-order (decLt j k)
     by-order (no l) = row-below m k g w j i (omega arith)
 
 -- row k is set in both: an element of row j that was flipped by b still is, if the new one is where j is k
-module _ (m k : ℕ) (g g′ : ℕ → ℤ) (w w′ : List ℤ) (room : Room m w) (room′ : Room m w′)
+module _ (m k : ℕ) (g g′ : ℕ → ℤ) (w w′ : List ℤ) (room : WorkspaceFits m w) (room′ : WorkspaceFits m w′)
     (hk : k < 2 * (m + 1)) where
   row-flips : (j i : ℕ) (b : Bool) → i < 2 ^ m → (j ≡ k → g′ i ≡ flipped b (g i)) → row m w′ j i ≡ flipped b (row m w j i)
       → row m (setRow m k g′ w′) j i ≡ flipped b (row m (setRow m k g w) j i)
@@ -88,25 +101,25 @@ module _ (m : ℕ) (u : ℕ → Bool) (s : ℕ) (g g′ : ℕ → ℤ) (hs : s �
 pub record Runs (m : ℕ) (mask : List ℕ) (u : ℕ → Bool) (llr llr′ old old′ : List ℤ) : Type 0 where
   pub frozen : (i : ℕ) → i < 2 ^ m → (getD mask i 0 ≡ 0 → ⊥) → u i ≡ false
   pub sent : (i : ℕ) → i < 2 ^ m → getD llr′ i (pos 0) ≡ flipped (coded m u i) (getD llr i (pos 0))
-  pub room : Room m old
-  pub room′ : Room m old′
+  pub room : WorkspaceFits m old
+  pub room′ : WorkspaceFits m old′
 
 prior-flips : (C : ℕ) (mask : List ℕ) (i : ℕ) (b : Bool) → ((getD mask i 0 ≡ 0 → ⊥) → b ≡ false) → prior C mask i ≡ flipped b (prior C mask i)
 prior-flips C mask i b frozen = by-kind (getD mask i 0) refl
   where
-    by-kind : (n : ℕ) → getD mask i 0 ≡ n → byKind n (pos 0) (pos C) ≡ flipped b (byKind n (pos 0) (pos C))
+    by-kind : (n : ℕ) → getD mask i 0 ≡ n → byKind n (pos 0) (λ bit. flipped bit (pos C)) ≡ flipped b (byKind n (pos 0) (λ bit. flipped bit (pos C)))
     by-kind zero e = sym (flipped-zero b)
     by-kind (suc n) e = rw (frozen (λ z. omega arith))
 
 abbrev cleared : ℕ → List ℤ → List ℤ
 cleared m old = overwrite (workspaceLength m) (λ j. pos 0) old
 
-row-cleared : (m k i : ℕ) (old : List ℤ) → Room m old → k < 2 * (m + 1) → i < 2 ^ m → row m (cleared m old) k i ≡ pos 0
+row-cleared : (m k i : ℕ) (old : List ℤ) → WorkspaceFits m old → k < 2 * (m + 1) → i < 2 ^ m → row m (cleared m old) k i ≡ pos 0
 row-cleared m k i old room hk hi =
     let within : k * 2 ^ m + i < workspaceLength m = row-lt m k i hk hi in
     overwrite-at (workspaceLength m) (λ j. pos 0) old (k * 2 ^ m + i) (pos 0) within (omega arith)
 
-cleared-flips : (m : ℕ) (u : ℕ → Bool) (old old′ : List ℤ) → Room m old → Room m old′
+cleared-flips : (m : ℕ) (u : ℕ → Bool) (old old′ : List ℤ) → WorkspaceFits m old → WorkspaceFits m old′
     → Flipped m u (cleared m old) (cleared m old′)
 cleared-flips m u old old′ room room′ =
     let each : (k i : ℕ) (b : Bool) → k < 2 * (m + 1) → i < 2 ^ m → row m (cleared m old′) k i ≡ flipped b (row m (cleared m old) k i)
@@ -151,9 +164,9 @@ xor-again a b = rw (xor-comm a (xor a b)) (xor-ends a b)
 -- v are the bits of column s, so step t v are those of column s + 1; l and r are the messages that the step reads. Of a pair i, j the four
 -- formulas come in the order L(s, i), R(s + 1, i), L(s, j), R(s + 1, j)
 module _ (rule : MinSum) (m t : ℕ) (ht : t < m) (v : ℕ → Bool) (l l′ r r′ : ℕ → ℤ)
-    (hl : (i : ℕ) → i < 2 ^ m → l′ i ≡ flipped (step t v i) (l i)) (hr : (i : ℕ) → i < 2 ^ m → r′ i ≡ flipped (v i) (r i)) where
+    (hl : (i : ℕ) → i < 2 ^ m → l′ i ≡ flipped (columnStep t v i) (l i)) (hr : (i : ℕ) → i < 2 ^ m → r′ i ≡ flipped (v i) (r i)) where
   formulas-flip : (p : ℕ) → p < 2 ^ m
-      → (leftAt rule t l′ r′ p ≡ flipped (v p) (leftAt rule t l r p)) × (rightAt rule t l′ r′ p ≡ flipped (step t v p) (rightAt rule t l r p))
+      → (leftAt rule t l′ r′ p ≡ flipped (v p) (leftAt rule t l r p)) × (rightAt rule t l′ r′ p ≡ flipped (columnStep t v p) (rightAt rule t l r p))
   formulas-flip = pairs m t _ ht (λ i hi hj z o.
       let j : ℕ = i + 2 ^ t in
       let back : i + 2 ^ t - 2 ^ t ≡ i = omega arith in

@@ -8,14 +8,23 @@ use lib.ListN.{length, getD}
 use lib.Ieee.{Float}
 use Rattle.calls.specs.Signs.{flipped}
 use Rattle.polar.specs.declared.Code.{Code}
-use Rattle.polar.specs.Code.{bitOf, uBit, encodeNumber, encodeBlock}
+use Rattle.calls.specs.Bits.{bitOf}
+use Rattle.polar.specs.Code.{uBit, encodeNumber, encodeBlock}
 use Rattle.channel.specs.declared.Channel.{Channel}
 use Rattle.channel.specs.Front.{frontNumber, frontLlrs}
-use Rattle.channel.specs.Negated.{negated}
+use Rattle.channel.specs.FlippedSamples.{flippedSamples}
 use Rattle.settings.specs.declared.Settings.{Settings}
 use Rattle.settings.specs.declared.Room.{Room}
 use Rattle.settings.specs.Settings.{decodeNumber}
-use Rattle.decoder.specs.Decoder.{Result, roomOf, decodeResult, decodeSoft, decodeMark, decodeCodedSoft, decodeCodedMark}
+use Rattle.decoder.specs.Decoder.{
+  Result,
+  roomOf,
+  decodeResult,
+  decodeSoft,
+  decodeMark,
+  decodeCodedSoft,
+  decodeCodedMark,
+}
 use Rattle.independence.specs.Outcome.{verdict-turned}
 use Rattle.independence.specs.Verdict.{verdict, turned}
 use Rattle.independence.specs.Runs.{

@@ -16,13 +16,15 @@ use Rattle.calls.specs.MemoryLaws.{length-overwrite, overwrite-at}
 use Rattle.calls.specs.NumberLaws.{check-passed, and-passed}
 use Rattle.calls.specs.Signs.{flipped}
 use Rattle.polar.specs.declared.Code.{Code}
-use Rattle.polar.specs.Code.{byKind, byteOf, bitOf, uBit, informationCount, coded, encodeNumber, encodeBlock}
-use Rattle.polar.specs.BitLaws.{bit-of-byte}
+use Rattle.polar.specs.Mask.{byKind}
+use Rattle.calls.specs.Bits.{byteOf, bitOf}
+use Rattle.polar.specs.Code.{uBit, informationCount, coded, encodeNumber, encodeBlock}
+use Rattle.calls.specs.BitLaws.{bit-of-byte}
 use Rattle.polar.specs.CodeLaws.{encode-accepted}
 use Rattle.channel.specs.declared.Channel.{Channel}
 use Rattle.channel.specs.Front.{llrOf, frontNumber, frontLlrs}
-use Rattle.channel.specs.Negated.{negated}
-use Rattle.channel.specs.FrontLaws.{llr-negated, front-number-negated}
+use Rattle.channel.specs.FlippedSamples.{flippedSamples}
+use Rattle.channel.specs.FrontLaws.{llr-at-flipped, front-number-flipped}
 use Rattle.criteria.specs.Marks.{markOf}
 use Rattle.settings.specs.declared.Settings.{Settings}
 use Rattle.settings.specs.declared.Room.{Room}
@@ -59,7 +61,7 @@ module _ {A : Type 0} where
 pub frozen-zero : (mask message : List ℕ) (i : ℕ) → (getD mask i 0 ≡ 0 → ⊥) → uBit mask message i ≡ false
 frozen-zero mask message i frozen = by-kind (getD mask i 0) refl
   where
-    by-kind : (n : ℕ) → getD mask i 0 ≡ n → byKind n (bitOf (getD message (informationCount mask i) 0)) false ≡ false
+    by-kind : (n : ℕ) → getD mask i 0 ≡ n → byKind n (bitOf (getD message (informationCount mask i) 0)) (λ bit. bit) ≡ false
     by-kind zero e = absurd (frozen e)
     by-kind (suc n) e = refl
 
@@ -81,22 +83,22 @@ front-room m C channel samples room ok =
 
 -- two calls, the second with the samples negated where a bit is 1, into slices of the same length
 module _ (m C : ℕ) (channel : Channel) (bit : ℕ → Bool) (samples : List Float) (old old′ : List ℤ) (long : length old ≡ length old′) where
-  pub front-same : frontNumber m C channel (negated (2 ^ m) bit samples) (length old′) ≡ frontNumber m C channel samples (length old)
-  front-same = front-number-negated m C channel bit samples (length old′) ∙ ap (frontNumber m C channel samples) (sym long)
+  pub front-same : frontNumber m C channel (flippedSamples (2 ^ m) bit samples) (length old′) ≡ frontNumber m C channel samples (length old)
+  front-same = front-number-flipped m C channel bit samples (length old′) ∙ ap (frontNumber m C channel samples) (sym long)
 
-  pub length-llrs : length (frontLlrs m C channel (negated (2 ^ m) bit samples) old′) ≡ length (frontLlrs m C channel samples old)
+  pub length-llrs : length (frontLlrs m C channel (flippedSamples (2 ^ m) bit samples) old′) ≡ length (frontLlrs m C channel samples old)
   length-llrs =
-      length-after (frontNumber m C channel (negated (2 ^ m) bit samples) (length old′)) (2 ^ m) _ old′
+      length-after (frontNumber m C channel (flippedSamples (2 ^ m) bit samples) (length old′)) (2 ^ m) _ old′
       ∙ sym long
       ∙ sym (length-after (frontNumber m C channel samples (length old)) (2 ^ m) _ old)
 
   pub llrs-flip : frontNumber m C channel samples (length old) ≡ 0 → (i : ℕ) → i < 2 ^ m
-      → getD (frontLlrs m C channel (negated (2 ^ m) bit samples) old′) i (pos 0) ≡ flipped (bit i) (getD (frontLlrs m C channel samples old) i (pos 0))
+      → getD (frontLlrs m C channel (flippedSamples (2 ^ m) bit samples) old′) i (pos 0) ≡ flipped (bit i) (getD (frontLlrs m C channel samples old) i (pos 0))
   llrs-flip ok i h =
       let room = front-room m C channel samples (length old) ok in
-      new-at (frontNumber m C channel (negated (2 ^ m) bit samples) (length old′)) (2 ^ m)
-      (λ i. llrOf C channel (getD (negated (2 ^ m) bit samples) i nan)) old′ i (pos 0) (front-same ∙ ok) h (omega arith)
-      ∙ llr-negated (2 ^ m) C channel bit samples i h
+      new-at (frontNumber m C channel (flippedSamples (2 ^ m) bit samples) (length old′)) (2 ^ m)
+      (λ i. llrOf C channel (getD (flippedSamples (2 ^ m) bit samples) i nan)) old′ i (pos 0) (front-same ∙ ok) h (omega arith)
+      ∙ llr-at-flipped (2 ^ m) C channel bit samples i h
       ∙ ap (flipped (bit i)) (sym (new-at (frontNumber m C channel samples (length old)) (2 ^ m) (λ i. llrOf C channel (getD samples i nan)) old i (pos 0) ok h room))
 
 -- ---- the decoder: two calls, the second with its LLRs flipped by the block sent, with slices of the same lengths

@@ -5,8 +5,9 @@ use mathlib.Core.List.{List}
 use lib.Dec.{leb, eqb}
 use lib.IntN.{ℤ, pos, natAbs}
 use lib.ListN.{length, getD}
-use Rattle.calls.specs.Numbers.{check, andThen, between}
-use Rattle.polar.specs.Code.{informationCount, areBits}
+use Rattle.calls.specs.Numbers.{check, firstRefusal, between}
+use Rattle.polar.specs.Mask.{maskAccepted}
+use Rattle.polar.specs.Code.{informationCount}
 use Rattle.settings.specs.declared.Settings.{Settings}
 use Rattle.settings.specs.declared.Lengths.{Lengths}
 
@@ -49,8 +50,8 @@ withinCeiling (suc n) C llr = withinCeiling n C llr && leb (natAbs (getD llr n (
 
 abbrev pub decodeNumber : Settings → List ℕ → List ℤ → Lengths → ℕ
 decodeNumber s mask llr lengths =
-    andThen (settingsNumber s)
+    firstRefusal (settingsNumber s)
     (check (slicesFit (s .m) (length mask) (length llr) lengths) 7
-    (check (areBits (2 ^ s .m) mask) 8
+    (check (maskAccepted (2 ^ s .m) mask) 8
     (check (leb 1 (informationCount mask (2 ^ s .m))) 9
     (check (withinCeiling (2 ^ s .m) (s .ceiling) llr) 10 0))))

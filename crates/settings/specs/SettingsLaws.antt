@@ -10,13 +10,21 @@ use lib.Dec.{leb}
 use lib.IntN.{ℤ, pos, natAbs}
 use lib.ListN.{length, getD}
 use borrow.Author.Tests.{leb-true}
-use Rattle.calls.specs.NumberLaws.{check-passed, both-passed, and-passed, between-passed}
+use Rattle.calls.specs.NumberLaws.{check-passed, first-refusal-passed, and-passed, between-passed}
 use Rattle.calls.specs.Signs.{flipped}
 use Rattle.calls.specs.SignLaws.{size-flipped}
-use Rattle.polar.specs.Code.{informationCount, areBits}
+use Rattle.polar.specs.Mask.{maskAccepted}
+use Rattle.polar.specs.Code.{informationCount}
 use Rattle.settings.specs.declared.Settings.{Settings}
 use Rattle.settings.specs.declared.Lengths.{Lengths}
-use Rattle.settings.specs.Settings.{operandFits, largestLimit, settingsNumber, slicesFit, withinCeiling, decodeNumber}
+use Rattle.settings.specs.Settings.{
+  operandFits,
+  largestLimit,
+  settingsNumber,
+  slicesFit,
+  withinCeiling,
+  decodeNumber,
+}
 
 -- ---- an accepted call
 
@@ -94,14 +102,14 @@ slices-accepted m mask llr lengths h =
 pub record Accepted (s : Settings) (mask : List ℕ) (llr : List ℤ) (lengths : Lengths) : Type 0 where
   pub settings : SettingsAccepted s
   pub slices : SlicesAccepted (s .m) (length mask) (length llr) lengths
-  pub values : areBits (2 ^ s .m) mask ≡ true
+  pub values : maskAccepted (2 ^ s .m) mask ≡ true
   pub information : 1 ≤ informationCount mask (2 ^ s .m)
   pub within : (i : ℕ) → i < 2 ^ s .m → natAbs (getD llr i (pos 0)) ≤ s .ceiling
 
 pub accepted : (s : Settings) (mask : List ℕ) (llr : List ℤ) (lengths : Lengths) → decodeNumber s mask llr lengths ≡ 0
     → Accepted s mask llr lengths
 accepted s mask llr lengths h =
-    let both = both-passed (settingsNumber s) _ h in
+    let both = first-refusal-passed (settingsNumber s) _ h in
     let seven = check-passed _ 6 _ (both .1) in
     let eight = check-passed _ 7 _ (seven .1) in
     let nine = check-passed _ 8 _ (eight .1) in

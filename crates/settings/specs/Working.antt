@@ -4,12 +4,13 @@ use mathlib.Core.List.{List}
 use lib.Dec.{leb}
 use lib.IntN.{ℤ}
 use Rattle.calls.specs.Numbers.{check}
-use Rattle.polar.specs.Code.{informationCount, areBits}
+use Rattle.polar.specs.Mask.{maskAccepted}
+use Rattle.polar.specs.Code.{informationCount}
 use Rattle.settings.specs.Settings.{withinCeiling}
 
 -- 8 to 10
 abbrev pub blockNumber : ℕ → ℕ → List ℕ → List ℤ → ℕ
 blockNumber m C mask llr =
-    check (areBits (2 ^ m) mask) 8
+    check (maskAccepted (2 ^ m) mask) 8
     (check (leb 1 (informationCount mask (2 ^ m))) 9
     (check (withinCeiling (2 ^ m) C llr) 10 0))

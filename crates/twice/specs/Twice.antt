@@ -4,7 +4,7 @@ use mathlib.Core.Path.{_≡_}
 use mathlib.Core.List.{List}
 use lib.Dec.{leb}
 use lib.ListN.{length, getD}
-use Rattle.calls.specs.Numbers.{check, andThen}
+use Rattle.calls.specs.Numbers.{check, firstRefusal}
 use Rattle.polar.specs.declared.Code.{Code}
 use Rattle.polar.specs.Code.{encodeNumber}
 
@@ -15,4 +15,4 @@ AllInformation code mask = (i : ℕ) → i < 2 ^ code .m → getD mask i 0 ≡ 0
 -- the first call's refusal; else 7 exactly where the second slice is shorter than 2^m
 abbrev pub twiceNumber : Code → List ℕ → List ℕ → List ℕ → List ℕ → ℕ
 twiceNumber code mask message block again =
-    andThen (encodeNumber code mask message (length block)) (check (leb (2 ^ code .m) (length again)) 7 0)
+    firstRefusal (encodeNumber code mask message (length block)) (check (leb (2 ^ code .m) (length again)) 7 0)

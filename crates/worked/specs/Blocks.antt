@@ -9,7 +9,7 @@ use Rattle.polar.specs.declared.Code.{Code}
 use Rattle.polar.specs.Code.{encodeBlock}
 use Rattle.channel.specs.declared.Channel.{Channel}
 use Rattle.channel.specs.declared.Channel.the-variants.{Gaussian, Flipping}
-use Rattle.channel.specs.Front.{withSign, quantised, isFinite, isAboveZero, frontLlrs}
+use Rattle.channel.specs.Front.{withSampleSign, quantised, isFinite, isAboveZero, frontLlrs}
 use Rattle.message.specs.Message.{add, f}
 use Rattle.sweeps.specs.Workspace.{setRow}
 use Rattle.sweeps.specs.Iteration.{leftStep, rightStep, start}
@@ -198,7 +198,7 @@ blocks =
     ∷ []
 
 pub worked : map (λ l. l .found) blocks ≡ map (λ l. l .expected) blocks
-unfolding add f setRow leftStep rightStep start after ending ofBits mul neg withSign quantised isFinite isAboveZero
+unfolding add f setRow leftStep rightStep start after ending ofBits mul neg withSampleSign quantised isFinite isAboveZero
 worked = refl
 
 -- ---- the workspace of P1 at its end: L(0, .), L(1, .), R(0, .), R(1, .), and the element behind

@@ -5,8 +5,8 @@ use native.Mathlib.Omega.{arith}
 use borrow.Author.Needs.{needs}
 use lib.Dec.{eqb}
 use lib.ListN.{getD}
-use Rattle.criteria.specs.Criteria.{every}
-use Rattle.criteria.specs.EveryLaws.{every-next}
+use Rattle.calls.specs.Every.{every}
+use Rattle.calls.specs.EveryLaws.{every-next}
 use Rattle.criteria.proofs.equal.Statement.{statement}
 use Rattle.criteria.proofs.equal.Tie as tie
 

@@ -7,10 +7,10 @@ use borrow.Author.Needs.{needs}
 use lib.Dec.{eqb}
 use lib.ListN.{getD}
 use lib.IntN.{pos}
-use Rattle.polar.specs.Code.{byKind}
+use Rattle.polar.specs.Mask.{byKind}
 use Rattle.criteria.specs.Marks.{markOf}
 use Rattle.criteria.specs.Criteria.{sameMarks}
-use Rattle.criteria.specs.EveryLaws.{every-next}
+use Rattle.calls.specs.EveryLaws.{every-next}
 use Rattle.criteria.proofs.Values.{kept}
 use Rattle.criteria.proofs.same_marks.Statement.{statement}
 use Rattle.criteria.proofs.same_marks.Tie as tie
@@ -62,7 +62,7 @@ loop-again c =
     let i = at .loop .i in (
       omega arith,
       c .both .ensures
-          ∙ every-next i (λ j. byKind (getD mask j 0) (eqb (getD before j 0) (markOf (getD soft j (pos 0)))) true) (at .loop .inv .1)
+          ∙ every-next i (λ j. byKind (getD mask j 0) (eqb (getD before j 0) (markOf (getD soft j (pos 0)))) (λ bit. true)) (at .loop .inv .1)
           (c .before .keeps-mark .ensures ∙ rw (c .before .before .mark .ensures) (rw (kept (getD soft i (pos 0)) (mark-arg .mark-arg .given)))),
     )
 

@@ -7,7 +7,7 @@ use borrow.Author.Needs.{needs}
 use lib.Dec.{eqb}
 use lib.ListN.{getD}
 use Rattle.criteria.specs.Criteria.{untied}
-use Rattle.criteria.specs.EveryLaws.{every-next}
+use Rattle.calls.specs.EveryLaws.{every-next}
 use Rattle.criteria.proofs.untied.Statement.{statement}
 use Rattle.criteria.proofs.untied.Tie as tie
 

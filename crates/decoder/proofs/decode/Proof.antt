@@ -8,7 +8,7 @@ use Rattle.settings.specs.SettingsLaws.{Accepted, accepted}
 use Rattle.settings.specs.Slices.{Slices, slices, lengthsOf}
 use Rattle.settings.specs.SlicesLaws.{OutputsFit, outputs-fit, fit-with}
 use Rattle.sweeps.specs.Iteration.{start}
-use Rattle.sweeps.specs.IterationLaws.{Ready}
+use Rattle.sweeps.specs.IterationLaws.{WorkspaceValid}
 use Rattle.decoder.specs.Decoder.{ruleOf, callNumber}
 use Rattle.decoder.specs.RunLaws.{startOf}
 use Rattle.decoder.proofs.Deciding.{operand-le, decoded-refused, begun-valid, decoded-run, decoded-limit}
@@ -45,7 +45,7 @@ module _ (c : tie.After-begin) where
       c .begin .ensures
       ∙ ap (λ (rule : MinSum). start (a .settings .m) (rule .ceiling) (now (a .mask)) (now (a .llr)) (now (a .work))) (c .before .before .rule-of .ensures)
 
-  valid : Ready (ruleOf (given .args .settings)) (given .args .settings .m) (c .begin .last .1 .1 .1 .1 .0)
+  valid : WorkspaceValid (ruleOf (given .args .settings)) (given .args .settings .m) (c .begin .last .1 .1 .1 .1 .0)
   valid =
       begun-valid (given .args .settings) (now (given .args .mask)) (now (given .args .llr)) (lent given) (passed told) (tests told) _ begun
 

@@ -5,7 +5,7 @@ use denote.Ref.{now}
 use lib.IntN.{ℤ}
 use Rattle.message.specs.declared.MinSum.{MinSum}
 use Rattle.sweeps.specs.Iteration.{iteration}
-use Rattle.sweeps.specs.IterationLaws.{Ready, ready-iteration}
+use Rattle.sweeps.specs.IterationLaws.{WorkspaceValid, valid-iteration}
 use Rattle.decoder.specs.Decoder.{ruleOf}
 use borrow.Author.Needs.{needs}
 use Rattle.decoder.proofs.iterate.Statement.{statement}
@@ -21,8 +21,8 @@ module _ (c : tie.After-iterate) where
       c .iterate .ensures
       ∙ ap (λ (rule : MinSum). iteration rule (start .args .settings .m) (now (start .args .work))) (c .before .before .rule-of .ensures)
 
-  still-valid : Ready (ruleOf (start .args .settings)) (start .args .settings .m) (c .iterate .last .1 .1 .0)
-  still-valid = subst (λ (w : List ℤ). Ready (ruleOf (start .args .settings)) (start .args .settings .m) w) (sym iterated) (ready-iteration (start .pre .0))
+  still-valid : WorkspaceValid (ruleOf (start .args .settings)) (start .args .settings .m) (c .iterate .last .1 .1 .0)
+  still-valid = subst (λ (w : List ℤ). WorkspaceValid (ruleOf (start .args .settings)) (start .args .settings .m) w) (sym iterated) (valid-iteration (start .pre .0))
 
 rule-of-requires : tie.Need-rule-of-requires
 rule-of-requires c κs = search needs

@@ -6,7 +6,7 @@ use native.Mathlib.Omega.{arith}
 use denote.Ref.{now}
 use lib.ListN.{length}
 use Rattle.sweeps.specs.Iteration.{iterations}
-use Rattle.sweeps.specs.IterationLaws.{ready-iterations, length-iterations}
+use Rattle.sweeps.specs.IterationLaws.{valid-iterations, length-iterations}
 use Rattle.decoder.proofs.iterate_times.Statement.{statement}
 use Rattle.decoder.proofs.iterate_times.Tie as tie
 
@@ -20,7 +20,7 @@ loop-holds : tie.Need-loop-holds Inv-loop μ-loop
 loop-holds c = (zero-le, refl)
 
 iterate-requires : tie.Need-iterate-requires Inv-loop μ-loop
-iterate-requires c κs = let at = c .before .before in rw (at .loop .inv .1) (ready-iterations (at .before .pre) (at .loop .t))
+iterate-requires c κs = let at = c .before .before in rw (at .loop .inv .1) (valid-iterations (at .before .pre) (at .loop .t))
 
 add-t : tie.Need-add-t Inv-loop μ-loop
 add-t c = omega arith

@@ -5,7 +5,7 @@ use denote.Ref.{now}
 use lib.IntN.{ℤ}
 use Rattle.message.specs.declared.MinSum.{MinSum}
 use Rattle.sweeps.specs.Iteration.{iterations}
-use Rattle.sweeps.specs.IterationLaws.{Ready, ready-iterations}
+use Rattle.sweeps.specs.IterationLaws.{WorkspaceValid, valid-iterations}
 use Rattle.settings.specs.Slices.{slices}
 use Rattle.settings.specs.SlicesLaws.{fit-with}
 use Rattle.decoder.specs.Decoder.{ruleOf, outputsOf}
@@ -25,10 +25,10 @@ module _ (c : tie.After-iterate-times) where
       ∙ ap (λ (rule : MinSum). iterations rule (start .args .settings .m) (start .args .settings .limit) (now (start .args .work)))
       (c .before .before .rule-of .ensures)
 
-  valid : Ready (ruleOf (start .args .settings)) (start .args .settings .m) (c .iterate-times .last .1 .1 .1 .0)
+  valid : WorkspaceValid (ruleOf (start .args .settings)) (start .args .settings .m) (c .iterate-times .last .1 .1 .1 .0)
   valid =
-      subst (λ (w : List ℤ). Ready (ruleOf (start .args .settings)) (start .args .settings .m) w) (sym iterated)
-      (ready-iterations (start .pre .0) (start .args .settings .limit))
+      subst (λ (w : List ℤ). WorkspaceValid (ruleOf (start .args .settings)) (start .args .settings .m) w) (sym iterated)
+      (valid-iterations (start .pre .0) (start .args .settings .limit))
 
 rule-of-requires : tie.Need-rule-of-requires
 rule-of-requires c κs = search needs

@@ -3,7 +3,7 @@ use mathlib.Core.Path.{ap₂, _∙_}
 use borrow.Author.Needs.{needs}
 use mir.Facts.{toZ-ofZ}
 use Rattle.message.specs.Message.{add}
-use Rattle.message.proofs.Machine.{told}
+use Rattle.calls.proofs.Signed.{told}
 use Rattle.decoder.proofs.soft_output.Statement.{statement}
 use Rattle.decoder.proofs.soft_output.Tie as tie
 

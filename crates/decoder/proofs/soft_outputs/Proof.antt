@@ -12,8 +12,8 @@ use mir.Val.{toZ, ofZ}
 use Rattle.calls.specs.Memory.{overwrite}
 use Rattle.calls.specs.WrittenLaws.{Written, written-none, written-length, written-next, written-all}
 use Rattle.message.specs.declared.MinSum.{MinSum}
-use Rattle.message.proofs.Machine.{told}
-use Rattle.sweeps.specs.IterationLaws.{Ready}
+use Rattle.calls.proofs.Signed.{told}
+use Rattle.sweeps.specs.IterationLaws.{WorkspaceValid}
 use Rattle.sweeps.specs.Workspace.{row}
 use Rattle.decoder.specs.Decoder.{softOf}
 use Rattle.decoder.proofs.Loops.{softBy, in-work, message-is, message-small}
@@ -34,8 +34,8 @@ module _ (c : tie.After-power-of-two Inv-loop μ-loop) where
   abbrev m : ℕ
   m = start .args .settings .m
 
-  valid : Ready (c .before .rule-of .result) m (now (start .args .work))
-  valid = subst (λ (rule : MinSum). Ready rule m (now (start .args .work))) (sym (c .before .rule-of .ensures)) (start .pre .0)
+  valid : WorkspaceValid (c .before .rule-of .result) m (now (start .args .work))
+  valid = subst (λ (rule : MinSum). WorkspaceValid rule m (now (start .args .work))) (sym (c .before .rule-of .ensures)) (start .pre .0)
 
   width : c .power-of-two .result ≡ 2 ^ m
   width = c .power-of-two .ensures
@@ -69,7 +69,7 @@ module _ (c : tie.After-get2 Inv-loop μ-loop) where
   right-is = told (c .get2 .ok) (c .get2 .ensures ∙ message-is (valid p) _ _ _ (right-row p) (omega arith) (inside in-loop))
 
 rule-of-requires : tie.Need-rule-of-requires Inv-loop μ-loop
-rule-of-requires c κs = let s = c .before in (s .pre .0 .tested .ceiling-le, s .pre .0 .tested .scale-le)
+rule-of-requires c κs = let s = c .before in (s .pre .0 .in-range .ceiling-le, s .pre .0 .in-range .scale-le)
 
 power-of-two-requires : tie.Need-power-of-two-requires Inv-loop μ-loop
 power-of-two-requires c κs = c .before .before .pre .0 .size
@@ -99,7 +99,7 @@ soft-output-requires : tie.Need-soft-output-requires Inv-loop μ-loop
 soft-output-requires c κs =
     let v = valid (p c) in
     let i = inside (in-loop c) in (
-      v .tested,
+      v .in-range,
       (
         rw (left-is c) (message-small v _ _ _ (left-row (p c)) (omega arith) i),
         rw (right-is c) (message-small v _ _ _ (right-row (p c)) (omega arith) i),

@@ -29,7 +29,7 @@ try-criterion-requires c κs =
       (
         (s .pre .1 .1 .0, s .pre .1 .1 .1 .mark),
         triable (s .args .settings) (now (s .args .mask)) (before i) (s .pre .1 .1 .1) (e .0) (e .1 .0) (e .1 .1 .0) (e .1 .1 .1)
-            (s .pre .0 .tested .ceiling-le),
+            (s .pre .0 .in-range .ceiling-le),
       ),
     )
 

@@ -5,7 +5,7 @@ use mathlib.Core.Bool.{Bool}
 use borrow.Author.Needs.{needs}
 use denote.Ref.{now}
 use lib.ListN.{length}
-use Rattle.calls.specs.Numbers.{numberOf, check, andThen}
+use Rattle.calls.specs.Numbers.{numberOf, check, firstRefusal}
 use Rattle.calls.specs.NumberLaws.{refused-first}
 use Rattle.polar.specs.Code.{codeNumber}
 use Rattle.settings.specs.Settings.{withinCeiling}
@@ -21,9 +21,9 @@ module _ (s : tie.Start) where
   abbrev within : Bool
   within = withinCeiling (2 ^ s .args .m) (s .args .ceiling) (now (s .args .llr))
 
-  number : blockNumber (s .args .m) (s .args .ceiling) (now (s .args .mask)) (now (s .args .llr)) ≡ andThen code-number (check within 10 0)
+  number : blockNumber (s .args .m) (s .args .ceiling) (now (s .args .mask)) (now (s .args .llr)) ≡ firstRefusal code-number (check within 10 0)
   number =
-      block-tests (record { m = s .args .m }) _ _ _ (s .pre .0 .0) (s .pre .0 .1) (s .pre .1 .0) (s .pre .1 .1)
+      block-tests (record { m = s .args .m }) (s .args .ceiling) (now (s .args .mask)) (now (s .args .llr)) (s .pre .0 .0) (s .pre .0 .1) (s .pre .1 .0) (s .pre .1 .1)
 
 module _ (c : tie.After-within-ceiling) where
   abbrev told : tie.After-enum-told
