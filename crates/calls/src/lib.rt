@@ -13,6 +13,9 @@ pub const LARGEST_M: u32 = 10;
 
 pub const LARGEST_CEILING: u32 = 2047;
 
+// The largest scale, in sixteenths.
+pub const LARGEST_SCALE: u32 = 16;
+
 // Why a call is refused, in the order of the numbers.
 pub enum Refusal {
     BlockLength,

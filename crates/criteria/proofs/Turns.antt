@@ -8,7 +8,6 @@ use native.Mathlib.Omega.{arith}
 use borrow.Author.Tests.{le-leb, lt-leb, leb-true, leb-false}
 use lib.Dec.{leb}
 use lib.IntN.{ℤ, natAbs}
-use Rattle.polar.specs.Mask.{byKind}
 use Rattle.criteria.specs.Criteria.{leastSize}
 use Rattle.criteria.specs.Memory.{steadyNext}
 use Rattle.calls.specs.EveryLaws.{every-next}
@@ -26,10 +25,6 @@ pub least-next : (soft : ℕ → ℤ) (operand i least size : ℕ) → leb opera
     → leb operand (min least size) ≡ leastSize (i + 1) operand soft
 least-next soft operand i least size h e =
     min-leb operand least size ∙ every-next i (λ i. leb operand (natAbs (soft i))) h (ap (leb operand) e)
-
-pub frozen-kind : (kind : ℕ) (same : Bool) → (kind ≡ 0 → ⊥) → true ≡ byKind kind same (λ bit. true)
-frozen-kind zero same h = absurd (h refl)
-frozen-kind (suc kind) same h = refl
 
 -- ---- the steady count after an iteration that is not the first
 

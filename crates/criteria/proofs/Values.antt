@@ -4,31 +4,20 @@ use mathlib.Core.Path.{_≡_, refl, sym}
 use mathlib.Core.Bool.{true, false, true≢false}
 use native.Mathlib.Omega.{arith}
 use borrow.Author.Tests.{ltb-true, ltb-false}
-use lib.Dec.{T}
-use lib.IntN.{ℤ, pos, negsuc, negℤ, natAbs}
-use lib.Signed.{mag, ltZ, nonNeg}
+use lib.IntN.{ℤ, pos, negsuc, natAbs}
+use lib.Signed.{mag, ltZ}
 use mir.Syntax.{w16}
-use mir.Val.{SFits, hbits, toZ, ofZ}
+use mir.Val.{hbits, toZ, ofZ}
 use mir.Facts.{toZ-ofZ}
+use Rattle.calls.specs.Bounds.{largestCeiling}
+use Rattle.calls.proofs.Signed.{held}
 use Rattle.criteria.specs.Marks.{markOf}
-
-pub small-fits : (z : ℤ) → natAbs z ≤ 2047 → SFits w16 z
-small-fits (pos n) h = record { sfits = omega arith }
-small-fits (negsuc n) h = record { sfits = omega (arith, h) }
 
 pub kept : (z : ℤ) → mag z < 2 ^ hbits w16 → toZ w16 (ofZ w16 z) ≡ z
 kept z h = toZ-ofZ (record { sfits = h })
 
-pub small-kept : (z : ℤ) → natAbs z ≤ 2047 → toZ w16 (ofZ w16 z) ≡ z
-small-kept z h = toZ-ofZ (small-fits z h)
-
-pub negated-is-positive : (z : ℤ) → ltZ z (pos 0) ≡ true → T (nonNeg (negℤ z))
-negated-is-positive (pos n) e = let h : n < 0 = ltb-true n 0 e in absurd (omega arith)
-negated-is-positive (negsuc n) e = tt
-
-pub is-positive : (z : ℤ) → ltZ z (pos 0) ≡ false → T (nonNeg z)
-is-positive (pos n) e = tt
-is-positive (negsuc n) e = absurd (true≢false e)
+pub small-kept : (z : ℤ) → natAbs z ≤ largestCeiling → toZ w16 (ofZ w16 z) ≡ z
+small-kept z h = held z (omega arith)
 
 pub mark-below : (z : ℤ) → ltZ z (pos 0) ≡ true → 1 ≡ markOf z
 mark-below (pos n) e = let h : n < 0 = ltb-true n 0 e in absurd (omega arith)

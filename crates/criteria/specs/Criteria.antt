@@ -5,17 +5,13 @@ use mathlib.Core.List.{List}
 use lib.Dec.{leb, eqb}
 use lib.IntN.{ℤ, natAbs}
 use lib.ListN.{getD}
+use Rattle.calls.specs.Every.{every}
 use Rattle.calls.specs.Bits.{bitOf}
 use Rattle.polar.specs.Mask.{byKind}
 use Rattle.polar.specs.Code.{coded}
 use Rattle.criteria.specs.declared.Criterion.{Criterion}
 use Rattle.criteria.specs.declared.Criterion.the-variants.{Never, GMatrix, LeastSize, Steady}
 use Rattle.criteria.specs.Marks.{markOf}
-
--- all of 0, 1, .. n - 1
-abbrev pub every : ℕ → (ℕ → Bool) → Bool
-every zero p = true
-every (suc n) p = every n p && p n
 
 -- 1, G-matrix: no tie among marks or coded marks, and the marks coded give the coded marks
 abbrev pub untied : ℕ → (ℕ → ℕ) → Bool

@@ -2,7 +2,6 @@ pub mod Marks
 pub mod Criteria
 pub mod Memory
 pub mod Private
-pub mod EveryLaws
 pub mod CriteriaLaws
 pub mod MemoryLaws
 pub mod SliceLaws

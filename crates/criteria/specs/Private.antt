@@ -4,6 +4,7 @@ use mathlib.Core.Path.{_≡_}
 use mathlib.Core.List.{List}
 use lib.IntN.{ℤ, pos, natAbs}
 use lib.ListN.{length, getD}
+use Rattle.calls.specs.Bounds.{largestCeiling}
 use Rattle.calls.specs.Memory.{overwrite}
 use Rattle.criteria.specs.declared.Criterion.{Criterion}
 use Rattle.criteria.specs.declared.Memory.{Memory}
@@ -14,7 +15,7 @@ use Rattle.criteria.specs.Memory.{memoryNext, holdsNow}
 -- n soft values, none above the largest ceiling
 pub record SoftValues (n : ℕ) (l : List ℤ) : Type 0 where
   pub long : n ≤ length l
-  pub at : (i : ℕ) → i < n → natAbs (getD l i (pos 0)) ≤ 2047
+  pub at : (i : ℕ) → i < n → natAbs (getD l i (pos 0)) ≤ largestCeiling
 
 -- n marks
 pub record MarkBytes (n : ℕ) (l : List ℕ) : Type 0 where

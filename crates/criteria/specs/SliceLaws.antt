@@ -5,6 +5,7 @@ use mathlib.Core.List.{List}
 use native.Mathlib.Omega.{arith}
 use lib.IntN.{ℤ, pos, natAbs}
 use lib.ListN.{length, getD}
+use Rattle.calls.specs.Bounds.{largestCeiling}
 use Rattle.calls.specs.Memory.{overwrite}
 use Rattle.calls.specs.MemoryLaws.{overwrite-same}
 use Rattle.calls.specs.WrittenLaws.{Written, written-length, written-at}
@@ -13,7 +14,7 @@ use Rattle.criteria.specs.CriteriaLaws.{mark-le}
 use Rattle.criteria.specs.Private.{SoftValues, MarkBytes}
 
 module _ {n : ℕ} {g : ℕ → ℤ} {old soft : List ℤ} (h : Written n g old soft) (long : n ≤ length old) where
-  pub soft-values : (C : ℕ) → C ≤ 2047 → ((i : ℕ) → i < n → natAbs (g i) ≤ C) → SoftValues n soft
+  pub soft-values : (C : ℕ) → C ≤ largestCeiling → ((i : ℕ) → i < n → natAbs (g i) ≤ C) → SoftValues n soft
   soft-values C top small = record {
     long = omega (arith, written-length h);
     at = λ i l. rw (written-at h i (pos 0) l long) (omega (arith, small i l));

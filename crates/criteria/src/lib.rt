@@ -7,6 +7,7 @@ ghost use Prim.Native.Nat.{_+_, _<_, _≤_, _^_, min};
 ghost use lib.Dec.{eqb};
 ghost use lib.IntN.{pos, natAbs};
 ghost use lib.ListN.{length, getD};
+ghost use Rattle.calls.specs.Bounds.{largestM};
 ghost use Rattle.polar.specs.Mask.{byKind};
 ghost use Rattle.calls.specs.Memory.{overwrite};
 ghost use Rattle.criteria.specs.Marks.{markOf};
@@ -49,31 +50,6 @@ pub fn mark_all(n: usize, soft: &[i16], marks: &mut [u8])
     }
 }
 
-// The size of a soft value, which is not -32768.
-fn size(value: i16) -> u16
-    requires { ⌜ natAbs value ≤ 2047 ⌝ }
-    ensures { λ r. ⌜ r ≡ natAbs value ⌝ }
-{
-    if value < 0 {
-        (-value) as u16
-    } else {
-        value as u16
-    }
-}
-
-fn smaller(a: u16, b: u16) -> u16
-    ensures { λ r. ⌜ r ≡ min a b ⌝ }
-{
-    if a < b { a } else { b }
-}
-
-// Both, without a branch.
-fn both(a: bool, b: bool) -> bool
-    ensures { λ r. ⌜ r ≡ a && b ⌝ }
-{
-    a & b
-}
-
 // Whether no tie is among the first n marks.
 pub fn untied(marks: &[u8], n: usize) -> bool
     requires { ⌜ n ≤ length (now marks) ⌝ }
@@ -82,7 +58,7 @@ pub fn untied(marks: &[u8], n: usize) -> bool
     let mut clear = true;
     let mut i = 0;
     while i < n {
-        clear = both(clear, marks[i] != 2);
+        clear = calls::both(clear, marks[i] != 2);
         i += 1;
     }
     clear
@@ -96,7 +72,7 @@ pub fn least_size(operand: u16, soft: &[i16], n: usize) -> bool
     let mut least = 65535;
     let mut i = 0;
     while i < n {
-        least = smaller(least, size(soft[i]));
+        least = calls::smaller(least, calls::size(soft[i]));
         i += 1;
     }
     operand <= least
@@ -106,7 +82,7 @@ pub fn least_size(operand: u16, soft: &[i16], n: usize) -> bool
 fn keeps_mark(kind: u8, before: u8, now: u8) -> bool
     ensures { λ r. ⌜ r ≡ byKind kind (eqb before now) (λ bit. true) ⌝ }
 {
-    kind != 0 || before == now
+    !polar::is_information(kind) || before == now
 }
 
 // Whether the marks of the first n soft values are those of the iteration before, at the information positions.
@@ -117,7 +93,7 @@ pub fn same_marks(mask: &[u8], before: &[u8], soft: &[i16], n: usize) -> bool
     let mut same = true;
     let mut i = 0;
     while i < n {
-        same = both(same, keeps_mark(mask[i], before[i], mark(soft[i])));
+        same = calls::both(same, keeps_mark(mask[i], before[i], mark(soft[i])));
         i += 1;
     }
     same
@@ -143,7 +119,7 @@ fn equal(a: &[u8], b: &[u8], n: usize) -> bool
     let mut same = true;
     let mut i = 0;
     while i < n {
-        same = both(same, a[i] == b[i]);
+        same = calls::both(same, a[i] == b[i]);
         i += 1;
     }
     same
@@ -151,7 +127,7 @@ fn equal(a: &[u8], b: &[u8], n: usize) -> bool
 
 // Criterion 1: no tie, and the marks coded give the coded marks.
 pub fn g_matrix(m: u32, marks: &[u8], coded: &[u8]) -> bool
-    requires { ⌜ m ≤ 10 ⌝ }
+    requires { ⌜ m ≤ largestM ⌝ }
     requires { ⌜ MarkBytes (2 ^ m) (now marks) × MarkBytes (2 ^ m) (now coded) ⌝ }
     ensures { λ r. ⌜ r ≡ gMatrix m (λ i. getD (now (marks .entry)) i 0) (λ i. getD (now (coded .entry)) i 0) ⌝ }
 {
@@ -212,7 +188,7 @@ impl Memory {
         before: &[u8],
         soft: &[i16],
     ) -> u32
-        requires { ⌜ (m ≤ 10) × MemoryInRange self ⌝ }
+        requires { ⌜ (m ≤ largestM) × MemoryInRange self ⌝ }
         requires { ⌜ (2 ^ m ≤ length (now mask)) × (2 ^ m ≤ length (now before)) × (2 ^ m ≤ length (now soft)) ⌝ }
         ensures { λ r. ⌜ r ≡ countFor criterion (steadyNext (self .iterations) (self .steady)
             (sameMarks (2 ^ m) (now (mask .entry)) (λ i. getD (now (before .entry)) i 0)
@@ -241,7 +217,7 @@ impl Memory {
         soft: &[i16],
         _coded: &[u8],
     ) -> Memory
-        requires { ⌜ (m ≤ 10) × MemoryInRange self ⌝ }
+        requires { ⌜ (m ≤ largestM) × MemoryInRange self ⌝ }
         requires { ⌜ (2 ^ m ≤ length (now mask)) × (2 ^ m ≤ length (now before)) × (2 ^ m ≤ length (now soft)) ⌝ }
         ensures { λ r. ⌜ r ≡ memoryNext m criterion (now (mask .entry)) self (λ i. getD (now (before .entry)) i 0)
             (λ i. getD (now (soft .entry)) i (pos 0)) (λ i. getD (now («_coded» .entry)) i 0) ⌝ }
@@ -264,7 +240,7 @@ fn holds_now(
     marks: &[u8],
     coded: &[u8],
 ) -> bool
-    requires { ⌜ m ≤ 10 ⌝ }
+    requires { ⌜ m ≤ largestM ⌝ }
     requires { ⌜ SoftValues (2 ^ m) (now soft) × MarkBytes (2 ^ m) (now marks) × MarkBytes (2 ^ m) (now coded) ⌝ }
     ensures { λ r. ⌜ r ≡ holdsNow m criterion memory (λ i. getD (now (soft .entry)) i (pos 0))
         (λ i. getD (now (marks .entry)) i 0) (λ i. getD (now (coded .entry)) i 0) ⌝ }
@@ -288,7 +264,7 @@ pub fn try_criterion(
     marks: &mut [u8],
     coded: &[u8],
 ) -> Progress
-    requires { ⌜ (m ≤ 10) × MemoryInRange memory ⌝ }
+    requires { ⌜ (m ≤ largestM) × MemoryInRange memory ⌝ }
     requires { ⌜ (2 ^ m ≤ length (now mask)) × (2 ^ m ≤ length (now marks)) ⌝ }
     requires { ⌜ SoftValues (2 ^ m) (now soft) × MarkBytes (2 ^ m) (now coded) ⌝ }
     ensures { λ r. ⌜ CriterionTried m criterion memory (now (mask .entry)) (λ i. getD (now (soft .entry)) i (pos 0))

@@ -6,6 +6,7 @@ use mathlib.Core.List.{List}
 use native.Mathlib.Omega.{arith}
 use lib.IntN.{ℤ}
 use borrow.Author.Tests.{eqb-true}
+use Rattle.calls.specs.Bounds.{largestCeiling}
 use Rattle.calls.specs.declared.Refusal.{Refusal}
 use Rattle.calls.specs.Numbers.{refusalNumber, firstRefusal}
 use Rattle.calls.specs.NumberLaws.{refused-first, refused-keeps, between-passed}
@@ -25,7 +26,7 @@ by-refusal : (n : ℕ) (e : Ending) → ((next : ℕ) → firstRefusal n next �
 by-refusal zero e h = let no : _≡_ {A = ℕ} 1 0 = h 1 in absurd (omega arith)
 by-refusal (suc n) e h = refl
 
-pub operand-le : (C criterion operand : ℕ) → C ≤ 2047 → operandFits C criterion operand ≡ true → operand ≤ 2047
+pub operand-le : (C criterion operand : ℕ) → C ≤ largestCeiling → operandFits C criterion operand ≡ true → operand ≤ largestCeiling
 operand-le C zero operand top h = omega (arith, eqb-true operand 0 h)
 operand-le C (suc zero) operand top h = omega (arith, eqb-true operand 0 h)
 operand-le C (suc (suc zero)) operand top h = omega (arith, between-passed 1 C operand h)

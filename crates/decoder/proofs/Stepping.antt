@@ -4,6 +4,7 @@ use mathlib.Core.Path.{_≡_, refl, ap, subst, _∙_}
 use mathlib.Core.List.{List}
 use lib.IntN.{ℤ, pos}
 use lib.ListN.{length, getD}
+use Rattle.calls.specs.Bounds.{largestCeiling}
 use Rattle.calls.specs.Memory.{overwrite}
 use Rattle.calls.specs.WrittenLaws.{Written, written-at}
 use Rattle.sweeps.specs.Iteration.{iteration}
@@ -33,7 +34,7 @@ module _ (s : Settings) (mask : List ℕ) (before : Slices) (fits : OutputsFit (
   codedMarks = record { is = codedMark-is }
 
   -- what the criterion asks for
-  pub triable : s .ceiling ≤ 2047 → SoftValues (2 ^ s .m) soft × MarkBytes (2 ^ s .m) codedMark
+  pub triable : s .ceiling ≤ largestCeiling → SoftValues (2 ^ s .m) soft × MarkBytes (2 ^ s .m) codedMark
   triable top = (
     soft-values softs (fits .soft) (s .ceiling) top (λ i l. soft-size (ruleOf s) (getD mask i 0) _ _),
     mark-bytes (codedSoftAt s work) codedMarks (fits .codedMark),

@@ -5,6 +5,7 @@ ghost use mathlib.Core.Path.{_≡_};
 ghost use Prim.Native.Nat.{_<_, _≤_, _^_};
 ghost use lib.IntN.{natAbs};
 ghost use lib.ListN.{length};
+ghost use Rattle.calls.specs.Bounds.{largestCeiling, largestScale};
 ghost use Rattle.calls.specs.Memory.{overwrite};
 ghost use Rattle.message.specs.MessageLaws.{RuleInRange};
 ghost use Rattle.sweeps.specs.Iteration.{iteration, iterations};
@@ -48,7 +49,7 @@ pub fn reason_number(reason: Reason) -> u32
 
 // The settings of the message arithmetic.
 fn rule_of(settings: Settings) -> MinSum
-    requires { ⌜ (settings .ceiling ≤ 2047) × (settings .scale ≤ 16) ⌝ }
+    requires { ⌜ (settings .ceiling ≤ largestCeiling) × (settings .scale ≤ largestScale) ⌝ }
     ensures { λ r. ⌜ r ≡ ruleOf settings ⌝ }
 {
     let ceiling = settings.ceiling;
@@ -61,7 +62,7 @@ fn rule_of(settings: Settings) -> MinSum
 
 // The criterion that the settings name, with its operand.
 fn criterion_of(settings: Settings) -> Criterion
-    requires { ⌜ settings .operand ≤ 2047 ⌝ }
+    requires { ⌜ settings .operand ≤ largestCeiling ⌝ }
     ensures { λ r. ⌜ r ≡ criterionOf settings ⌝ }
 {
     let criterion = settings.criterion;
@@ -211,7 +212,7 @@ pub fn step(
     work: &mut [i16],
 ) -> Progress
     requires { ⌜ WorkspaceValid (ruleOf settings) (settings .m) (now work) ⌝ }
-    requires { ⌜ (settings .operand ≤ 2047) × MemoryInRange memory ⌝ }
+    requires { ⌜ (settings .operand ≤ largestCeiling) × MemoryInRange memory ⌝ }
     requires { ⌜ 2 ^ settings .m ≤ length (now mask) ⌝ }
     requires { ⌜ OutputsFit (2 ^ settings .m) (slices (now soft) (now mark) (now «coded_soft») (now «coded_mark») (now work)) ⌝ }
     ensures { λ r. ⌜ OneIteration settings memory (now (mask .entry))
@@ -245,7 +246,7 @@ fn run(
     work: &mut [i16],
 ) -> Outcome
     requires { ⌜ WorkspaceValid (ruleOf settings) (settings .m) (now work) ⌝ }
-    requires { ⌜ (settings .operand ≤ 2047) × (1 ≤ settings .limit) × (settings .limit ≤ largestLimit) ⌝ }
+    requires { ⌜ (settings .operand ≤ largestCeiling) × (1 ≤ settings .limit) × (settings .limit ≤ largestLimit) ⌝ }
     requires { ⌜ 2 ^ settings .m ≤ length (now mask) ⌝ }
     requires { ⌜ OutputsFit (2 ^ settings .m) (slices (now soft) (now mark) (now «coded_soft») (now «coded_mark») (now work)) ⌝ }
     ensures { λ r. ⌜ EndsAs settings (now (mask .entry)) (endOf settings (now (mask .entry)) (now (work .entry)))

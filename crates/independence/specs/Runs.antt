@@ -10,6 +10,7 @@ use lib.IntN.{ℤ, pos}
 use lib.ListN.{length, getD}
 use lib.Ieee.{Float, nan}
 use borrow.Author.Tests.{leb-true}
+use Rattle.calls.specs.Bounds.{largestM, largestCeiling}
 use Rattle.calls.specs.Numbers.{between}
 use Rattle.calls.specs.Memory.{overwrite, unlessRefused}
 use Rattle.calls.specs.MemoryLaws.{length-overwrite, overwrite-at}
@@ -76,8 +77,8 @@ sent-coded code mask message block ok i h =
 
 front-room : (m C : ℕ) (channel : Channel) (samples : List Float) (room : ℕ) → frontNumber m C channel samples room ≡ 0 → 2 ^ m ≤ room
 front-room m C channel samples room ok =
-    let one = check-passed (between 1 10 m) 0 _ ok in
-    let two = check-passed (between 1 2047 C) 1 _ (one .1) in
+    let one = check-passed (between 1 largestM m) 0 _ ok in
+    let two = check-passed (between 1 largestCeiling C) 1 _ (one .1) in
     let seven = check-passed (leb (2 ^ m) (length samples) && leb (2 ^ m) room) 6 _ (two .1) in
     leb-true (2 ^ m) room (and-passed (leb (2 ^ m) (length samples)) (leb (2 ^ m) room) (seven .0) .1)
 

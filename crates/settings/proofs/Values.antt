@@ -13,20 +13,21 @@ use lib.Signed.{mag, leZ}
 use mir.Syntax.{w16}
 use mir.Val.{SFits, hbits, toZ, ofZ}
 use mir.Facts.{toZ-ofZ}
+use Rattle.calls.specs.Bounds.{largestCeiling}
 use Rattle.settings.specs.Settings.{withinCeiling}
 
 pub kept : (z : ℤ) → mag z < 2 ^ hbits w16 → toZ w16 (ofZ w16 z) ≡ z
 kept z h = toZ-ofZ (record { sfits = h })
 
 -- minus the ceiling, which the code makes as 0 - C
-negated-fits : (C : ℕ) → C ≤ 2047 → SFits w16 (negℤ (pos C))
+negated-fits : (C : ℕ) → C ≤ largestCeiling → SFits w16 (negℤ (pos C))
 negated-fits zero h = record { sfits = omega arith }
 negated-fits (suc n) h = record { sfits = omega arith }
 
-pub minus-fits : (C : ℕ) → C ≤ 2047 → SFits w16 (pos 0 -ℤ pos C)
+pub minus-fits : (C : ℕ) → C ≤ largestCeiling → SFits w16 (pos 0 -ℤ pos C)
 minus-fits C h = subst (SFits w16) (sym (+ℤ-idl (negℤ (pos C)))) (negated-fits C h)
 
-pub minus-kept : (C : ℕ) → C ≤ 2047 → toZ w16 (ofZ w16 (pos 0 -ℤ pos C)) ≡ negℤ (pos C)
+pub minus-kept : (C : ℕ) → C ≤ largestCeiling → toZ w16 (ofZ w16 (pos 0 -ℤ pos C)) ≡ negℤ (pos C)
 minus-kept C h = toZ-ofZ (minus-fits C h) ∙ +ℤ-idl (negℤ (pos C))
 
 -- a value lies from -C to C where its size is at most C

@@ -1,6 +1,6 @@
 pub mod Settings
 pub mod Slices
-pub mod Working
+pub mod Private
 pub mod SettingsLaws
 pub mod SlicesLaws
 pub mod Cases

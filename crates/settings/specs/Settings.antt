@@ -5,6 +5,8 @@ use mathlib.Core.List.{List}
 use lib.Dec.{leb, eqb}
 use lib.IntN.{ℤ, pos, natAbs}
 use lib.ListN.{length, getD}
+use Rattle.calls.specs.Bounds.{largestM, largestCeiling, largestScale}
+use Rattle.calls.specs.Every.{every}
 use Rattle.calls.specs.Numbers.{check, firstRefusal, between}
 use Rattle.polar.specs.Mask.{maskAccepted}
 use Rattle.polar.specs.Code.{informationCount}
@@ -25,9 +27,9 @@ largestLimit = 200
 -- 1 to 6
 abbrev pub settingsNumber : Settings → ℕ
 settingsNumber s =
-    check (between 1 10 (s .m)) 1
-    (check (between 1 2047 (s .ceiling)) 2
-    (check (between 1 16 (s .scale)) 3
+    check (between 1 largestM (s .m)) 1
+    (check (between 1 largestCeiling (s .ceiling)) 2
+    (check (between 1 largestScale (s .scale)) 3
     (check (between 1 largestLimit (s .limit)) 4
     (check (leb (s .criterion) 3) 5
     (check (operandFits (s .ceiling) (s .criterion) (s .operand)) 6 0)))))
@@ -45,8 +47,7 @@ slicesFit m mask llr lengths =
 
 -- 10. No LLR of the first n has a size above C
 abbrev pub withinCeiling : ℕ → ℕ → List ℤ → Bool
-withinCeiling zero C llr = true
-withinCeiling (suc n) C llr = withinCeiling n C llr && leb (natAbs (getD llr n (pos 0))) C
+withinCeiling n C llr = every n (λ i. leb (natAbs (getD llr i (pos 0))) C)
 
 abbrev pub decodeNumber : Settings → List ℕ → List ℤ → Lengths → ℕ
 decodeNumber s mask llr lengths =

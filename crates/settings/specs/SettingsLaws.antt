@@ -3,13 +3,13 @@ use Prim.Native.Nat.{ℕ, zero, suc, _+_, _*_, _^_, _≤_, _<_}
 use mathlib.Core.Path.{_≡_, refl, ap, _∙_}
 use mathlib.Core.Bool.{Bool, true}
 use mathlib.Core.List.{List}
-use mathlib.Core.Logic.{⊎-elim}
-use native.Mathlib.Nat.{eq-or-lt-of-le, le-of-suc-le-suc}
 use native.Mathlib.Omega.{arith}
 use lib.Dec.{leb}
 use lib.IntN.{ℤ, pos, natAbs}
 use lib.ListN.{length, getD}
 use borrow.Author.Tests.{leb-true}
+use Rattle.calls.specs.Bounds.{largestM, largestCeiling, largestScale}
+use Rattle.calls.specs.EveryLaws.{every-at, every-same}
 use Rattle.calls.specs.NumberLaws.{check-passed, first-refusal-passed, and-passed, between-passed}
 use Rattle.calls.specs.Signs.{flipped}
 use Rattle.calls.specs.SignLaws.{size-flipped}
@@ -29,18 +29,15 @@ use Rattle.settings.specs.Settings.{
 -- ---- an accepted call
 
 pub within-at : (n C : ℕ) (llr : List ℤ) → withinCeiling n C llr ≡ true → (i : ℕ) → i < n → natAbs (getD llr i (pos 0)) ≤ C
-within-at zero C llr h i q = absurd (omega arith)
-within-at (suc n) C llr h i q =
-    let both = and-passed (withinCeiling n C llr) (leb (natAbs (getD llr n (pos 0))) C) h in
-    ⊎-elim (λ e. rw e (leb-true (natAbs (getD llr n (pos 0))) C (both .1))) (λ q. within-at n C llr (both .0) i q) (eq-or-lt-of-le (le-of-suc-le-suc q))
+within-at n C llr h i l = leb-true (natAbs (getD llr i (pos 0))) C (every-at n i (λ i. leb (natAbs (getD llr i (pos 0))) C) h l)
 
 pub record SettingsAccepted (s : Settings) : Type 0 where
   pub m-some : 1 ≤ s .m
-  pub m-le : s .m ≤ 10
+  pub m-le : s .m ≤ largestM
   pub ceiling-some : 1 ≤ s .ceiling
-  pub ceiling-le : s .ceiling ≤ 2047
+  pub ceiling-le : s .ceiling ≤ largestCeiling
   pub scale-some : 1 ≤ s .scale
-  pub scale-le : s .scale ≤ 16
+  pub scale-le : s .scale ≤ largestScale
   pub limit-some : 1 ≤ s .limit
   pub limit-le : s .limit ≤ largestLimit
   pub criterion-le : s .criterion ≤ 3
@@ -54,9 +51,9 @@ settings-accepted s h =
     let four = check-passed _ 3 _ (three .1) in
     let five = check-passed _ 4 _ (four .1) in
     let six = check-passed _ 5 _ (five .1) in
-    let m = between-passed 1 10 (s .m) (one .0) in
-    let ceiling = between-passed 1 2047 (s .ceiling) (two .0) in
-    let scale = between-passed 1 16 (s .scale) (three .0) in
+    let m = between-passed 1 largestM (s .m) (one .0) in
+    let ceiling = between-passed 1 largestCeiling (s .ceiling) (two .0) in
+    let scale = between-passed 1 largestScale (s .scale) (three .0) in
     let limit = between-passed 1 largestLimit (s .limit) (four .0) in
     record {
       m-some = m .0;
@@ -135,10 +132,8 @@ module _ {s : Settings} (a : SettingsAccepted s) where
 pub within-flipped : (llr llr′ : List ℤ) (n C : ℕ) (b : ℕ → Bool)
     → ((i : ℕ) → i < n → getD llr′ i (pos 0) ≡ flipped (b i) (getD llr i (pos 0)))
     → withinCeiling n C llr′ ≡ withinCeiling n C llr
-within-flipped llr llr′ zero C b h = refl
-within-flipped llr llr′ (suc n) C b h =
-    let size : natAbs (getD llr′ n (pos 0)) ≡ natAbs (getD llr n (pos 0)) = ap natAbs (h n (omega arith)) ∙ size-flipped (b n) (getD llr n (pos 0)) in
-    rw (size, within-flipped llr llr′ n C b (λ i q. h i (omega arith)))
+within-flipped llr llr′ n C b h =
+    every-same n _ _ (λ i l. ap (λ (k : ℕ). leb k C) (ap natAbs (h i l) ∙ size-flipped (b i) (getD llr i (pos 0))))
 
 pub number-flipped : (s : Settings) (mask : List ℕ) (llr llr′ : List ℤ) (lengths : Lengths) (b : ℕ → Bool) → length llr′ ≡ length llr
     → ((i : ℕ) → i < 2 ^ s .m → getD llr′ i (pos 0) ≡ flipped (b i) (getD llr i (pos 0)))

@@ -5,11 +5,18 @@ ghost use mathlib.Core.Bool.{_&&_};
 ghost use Prim.Native.Nat.{_≤_, _^_};
 ghost use lib.ListN.{length};
 ghost use lib.Signed.{leZ};
+ghost use Rattle.calls.specs.Bounds.{largestM, largestCeiling};
 ghost use Rattle.calls.specs.Numbers.{numberOf, between};
 ghost use Rattle.settings.specs.Settings.{operandFits, settingsNumber, slicesFit, withinCeiling, decodeNumber};
-ghost use Rattle.settings.specs.Working.{blockNumber};
+ghost use Rattle.settings.specs.Private.{blockNumber};
 use calls::Answer;
+use calls::LARGEST_CEILING;
+use calls::LARGEST_M;
+use calls::LARGEST_SCALE;
 use calls::Refusal;
+
+// The largest limit T.
+const LARGEST_LIMIT: u32 = 200;
 
 // The settings travel as one struct by value, so that a later setting joins them here.
 pub struct Settings {
@@ -30,18 +37,11 @@ pub struct Lengths {
     pub work: usize,
 }
 
-// Both, without a branch.
-fn both(a: bool, b: bool) -> bool
-    ensures { λ r. ⌜ r ≡ a && b ⌝ }
-{
-    a & b
-}
-
 // From low to high, both included.
 fn between(low: u32, high: u32, x: u32) -> bool
     ensures { λ r. ⌜ r ≡ between low high x ⌝ }
 {
-    both(low <= x, x <= high)
+    calls::both(low <= x, x <= high)
 }
 
 // The operand's range is its criterion's.
@@ -66,16 +66,16 @@ fn settings_refusal(settings: Settings) -> Answer
     let limit = settings.limit;
     let criterion = settings.criterion;
     let operand = settings.operand;
-    if !between(1, 10, m) {
+    if !between(1, LARGEST_M, m) {
         return Answer::Refused(Refusal::BlockLength);
     }
-    if !between(1, 2047, ceiling) {
+    if !between(1, LARGEST_CEILING, ceiling) {
         return Answer::Refused(Refusal::Ceiling);
     }
-    if !between(1, 16, scale) {
+    if !between(1, LARGEST_SCALE, scale) {
         return Answer::Refused(Refusal::Scale);
     }
-    if !between(1, 200, limit) {
+    if !between(1, LARGEST_LIMIT, limit) {
         return Answer::Refused(Refusal::Limit);
     }
     if 3 < criterion {
@@ -89,7 +89,7 @@ fn settings_refusal(settings: Settings) -> Answer
 
 // 7, of the lengths of the mask, of the LLRs and of the slices that are written.
 fn slices_fit(m: u32, mask: usize, llr: usize, lengths: Lengths) -> bool
-    requires { ⌜ m ≤ 10 ⌝ }
+    requires { ⌜ m ≤ largestM ⌝ }
     ensures { λ r. ⌜ r ≡ slicesFit m mask llr lengths ⌝ }
 {
     let n = polar::power_of_two(m);
@@ -98,22 +98,22 @@ fn slices_fit(m: u32, mask: usize, llr: usize, lengths: Lengths) -> bool
     let coded_soft = lengths.coded_soft;
     let coded_mark = lengths.coded_mark;
     let work = lengths.work;
-    let inputs = both(n <= mask, n <= llr);
-    let outputs = both(both(inputs, n <= soft), n <= mark);
-    let coded = both(both(outputs, n <= coded_soft), n <= coded_mark);
-    both(coded, 2 * (m as usize + 1) * n <= work)
+    let inputs = calls::both(n <= mask, n <= llr);
+    let outputs = calls::both(calls::both(inputs, n <= soft), n <= mark);
+    let coded = calls::both(calls::both(outputs, n <= coded_soft), n <= coded_mark);
+    calls::both(coded, 2 * (m as usize + 1) * n <= work)
 }
 
 // Whether a value lies from low to high. No value is negated, so -32768 is tested as any other.
 fn lies_within(low: i16, high: i16, value: i16) -> bool
     ensures { λ r. ⌜ r ≡ leZ low value && leZ value high ⌝ }
 {
-    both(low <= value, value <= high)
+    calls::both(low <= value, value <= high)
 }
 
 // 10, of the first n LLRs. It keeps one flag, without a branch.
 fn within_ceiling(llr: &[i16], n: usize, ceiling: u32) -> bool
-    requires { ⌜ (n ≤ length (now llr)) × (ceiling ≤ 2047) ⌝ }
+    requires { ⌜ (n ≤ length (now llr)) × (ceiling ≤ largestCeiling) ⌝ }
     ensures { λ r. ⌜ r ≡ withinCeiling n ceiling (now (llr .entry)) ⌝ }
 {
     let high = ceiling as i16;
@@ -121,7 +121,7 @@ fn within_ceiling(llr: &[i16], n: usize, ceiling: u32) -> bool
     let mut within = true;
     let mut i = 0;
     while i < n {
-        within = both(within, lies_within(low, high, llr[i]));
+        within = calls::both(within, lies_within(low, high, llr[i]));
         i += 1;
     }
     within
@@ -129,7 +129,7 @@ fn within_ceiling(llr: &[i16], n: usize, ceiling: u32) -> bool
 
 // 8 to 10, where the tests before have passed.
 fn block_refusal(m: u32, ceiling: u32, mask: &[u8], llr: &[i16]) -> Answer
-    requires { ⌜ (1 ≤ m) × (m ≤ 10) × (ceiling ≤ 2047) ⌝ }
+    requires { ⌜ (1 ≤ m) × (m ≤ largestM) × (ceiling ≤ largestCeiling) ⌝ }
     requires { ⌜ (2 ^ m ≤ length (now mask)) × (2 ^ m ≤ length (now llr)) ⌝ }
     ensures { λ r. ⌜ numberOf r ≡ blockNumber m ceiling (now (mask .entry)) (now (llr .entry)) ⌝ }
 {

@@ -7,6 +7,7 @@ use borrow.Author.Tests.{le-leb}
 use lib.Dec.{leb}
 use lib.ListN.{getD}
 use lib.IntN.{ℤ, pos, natAbs}
+use Rattle.calls.specs.Bounds.{largestCeiling}
 use Rattle.criteria.specs.Criteria.{leastSize}
 use Rattle.criteria.proofs.Values.{small-kept}
 use Rattle.criteria.proofs.Turns.{least-next}
@@ -24,7 +25,7 @@ module _ (c : tie.In-loop Inv-loop μ-loop) where
   abbrev value : ℤ
   value = getD (c .before .before .args .soft .now) (c .before .loop .i) (pos 0)
 
-  small : natAbs value ≤ 2047
+  small : natAbs value ≤ largestCeiling
   small = c .before .before .pre .at (c .before .loop .i) (c .loop-test .taken)
 
 loop-holds : tie.Need-loop-holds Inv-loop μ-loop

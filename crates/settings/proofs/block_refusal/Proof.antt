@@ -9,7 +9,7 @@ use Rattle.calls.specs.Numbers.{numberOf, check, firstRefusal}
 use Rattle.calls.specs.NumberLaws.{refused-first}
 use Rattle.polar.specs.Code.{codeNumber}
 use Rattle.settings.specs.Settings.{withinCeiling}
-use Rattle.settings.specs.Working.{blockNumber}
+use Rattle.settings.specs.Private.{blockNumber}
 use Rattle.settings.proofs.Tests.{block-tests}
 use Rattle.settings.proofs.block_refusal.Statement.{statement}
 use Rattle.settings.proofs.block_refusal.Tie as tie

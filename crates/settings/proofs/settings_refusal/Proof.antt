@@ -4,6 +4,7 @@ use mathlib.Core.Bool.{true}
 use borrow.Author.Needs.{needs}
 use borrow.Author.Tests.{le-leb, lt-leb, not-true, not-false}
 use lib.Dec.{leb}
+use Rattle.calls.specs.Bounds.{largestM, largestCeiling, largestScale}
 use Rattle.calls.specs.Numbers.{between}
 use Rattle.settings.proofs.settings_refusal.Statement.{statement}
 use Rattle.settings.proofs.settings_refusal.Tie as tie
@@ -22,13 +23,13 @@ abbrev past4 : tie.Else4 → tie.Start
 past4 c = past3 (c .before .before)
 
 -- ---- what each test says of them
-block : (c : tie.Else1) → between 1 10 (past1 c .args .settings .m) ≡ true
+block : (c : tie.Else1) → between 1 largestM (past1 c .args .settings .m) ≡ true
 block c = sym (c .before .between .ensures) ∙ not-false _ (c .if1 .left)
 
-ceiling : (c : tie.Else2) → between 1 2047 (past2 c .args .settings .ceiling) ≡ true
+ceiling : (c : tie.Else2) → between 1 largestCeiling (past2 c .args .settings .ceiling) ≡ true
 ceiling c = sym (c .before .between2 .ensures) ∙ not-false _ (c .if2 .left)
 
-scale : (c : tie.Else3) → between 1 16 (past3 c .args .settings .scale) ≡ true
+scale : (c : tie.Else3) → between 1 largestScale (past3 c .args .settings .scale) ≡ true
 scale c = sym (c .before .between3 .ensures) ∙ not-false _ (c .if3 .left)
 
 limit : (c : tie.Else4) → between 1 200 (past4 c .args .settings .limit) ≡ true

@@ -5,6 +5,7 @@ use native.Mathlib.Nat.{mul-le-mul}
 use native.Mathlib.Omega.{arith}
 use borrow.Author.Needs.{needs}
 use lib.Pow.{pow-mono}
+use Rattle.calls.specs.Bounds.{largestM}
 use Rattle.settings.proofs.slices_fit.Statement.{statement}
 use Rattle.settings.proofs.slices_fit.Tie as tie
 
@@ -35,9 +36,9 @@ mul-both c = search needs
 mul-both-2 : tie.Need-mul-both-2
 mul-both-2 c =
     let p = c .before .before .before .before .before in
-    let n : p .power-of-two .result ≤ 2 ^ 10 = rw (p .power-of-two .ensures) (pow-mono (p .before .pre)) in
+    let n : p .power-of-two .result ≤ 2 ^ largestM = rw (p .power-of-two .ensures) (pow-mono (p .before .pre)) in
     let columns : 2 * (p .before .args .m + 1) ≤ 22 = omega arith in
-    let most : 2 * (p .before .args .m + 1) * p .power-of-two .result ≤ 22 * 2 ^ 10 = mul-le-mul columns n in
+    let most : 2 * (p .before .args .m + 1) * p .power-of-two .result ≤ 22 * 2 ^ largestM = mul-le-mul columns n in
     omega arith
 
 both-requires-6 : tie.Need-both-requires-6
