@@ -1,17 +1,21 @@
--- What the decoder can answer: a refusal from 1 to 10, or an ending at an iteration from 1 to 200 by reason 1 or 2.
-use Prim.Native.Nat.{ℕ, zero, suc, _+_, _-_, _≤_}
-use mathlib.Core.Path.{_≡_, refl}
+-- What the decoder can answer (a refusal from 1 to 10, or an ending at an iteration from 1 to the largest limit by reason 1 or 2), and what an
+-- accepted call writes at each place.
+use Prim.Native.Nat.{ℕ, zero, suc, _+_, _-_, _^_, _≤_, _<_}
+use mathlib.Core.Path.{_≡_, refl, ap, _∙_}
 use mathlib.Core.Bool.{Bool, true, false, cond}
 use mathlib.Core.List.{List}
 use native.Mathlib.Omega.{arith}
 use lib.Dec.{lit≤}
-use lib.IntN.{ℤ}
+use lib.IntN.{ℤ, pos}
+use lib.ListN.{getD}
+use Rattle.calls.specs.MemoryLaws.{overwrite-at}
 use Rattle.calls.specs.Numbers.{check, firstRefusal}
 use Rattle.settings.specs.declared.Settings.{Settings}
 use Rattle.settings.specs.Settings.{largestLimit, settingsNumber}
 use Rattle.settings.specs.Slices.{Slices, lengthsOf}
 use Rattle.settings.specs.SettingsLaws.{accepted}
-use Rattle.decoder.specs.Decoder.{Ending, endingFrom, ending, Result, refused, ended, resultBy, callNumber, decodeResult}
+use Rattle.settings.specs.SlicesLaws.{OutputsFit, outputs-fit}
+use Rattle.decoder.specs.Decoder.{Ending, endingFrom, ending, Result, refused, ended, resultBy, outputsOf, softAt, markAt, codedSoftAt, codedMarkAt, final, callNumber, decodeResult, decodeSlices}
 
 abbrev pub DecoderAnswer : Result → Type 0
 DecoderAnswer (refused number) = (1 ≤ number) × (number ≤ 10)
@@ -69,3 +73,33 @@ module _ (s : Settings) (mask : List ℕ) (llr : List ℤ) (lent : Slices) where
 
   pub decoder-answer : DecoderAnswer (decodeResult s mask llr lent)
   decoder-answer = by-number (callNumber s mask llr lent) (ending s mask llr (lent .work)) number-le ending-within
+
+-- ---- an accepted call: each place of its outputs
+
+module _ (s : Settings) (mask : List ℕ) (llr : List ℤ) (lent : Slices) (ok : callNumber s mask llr lent ≡ 0) where
+  written : decodeSlices s mask llr lent ≡ outputsOf s mask (final s mask llr (lent .work)) lent
+  written = rw ok
+
+  fits : OutputsFit (2 ^ s .m) lent
+  fits = outputs-fit lent (accepted s mask llr (lengthsOf lent) ok .slices)
+
+  module _ (i : ℕ) (l : i < 2 ^ s .m) where
+    pub soft-written : getD (decodeSlices s mask llr lent .soft) i (pos 0) ≡ softAt s mask (final s mask llr (lent .work)) i
+    soft-written =
+        ap (λ (x : Slices). getD (x .soft) i (pos 0)) written
+        ∙ overwrite-at (2 ^ s .m) _ (lent .soft) i (pos 0) l (omega (arith, fits .soft))
+
+    pub mark-written : getD (decodeSlices s mask llr lent .mark) i 0 ≡ markAt s mask (final s mask llr (lent .work)) i
+    mark-written =
+        ap (λ (x : Slices). getD (x .mark) i 0) written
+        ∙ overwrite-at (2 ^ s .m) _ (lent .mark) i 0 l (omega (arith, fits .mark))
+
+    pub codedSoft-written : getD (decodeSlices s mask llr lent .codedSoft) i (pos 0) ≡ codedSoftAt s (final s mask llr (lent .work)) i
+    codedSoft-written =
+        ap (λ (x : Slices). getD (x .codedSoft) i (pos 0)) written
+        ∙ overwrite-at (2 ^ s .m) _ (lent .codedSoft) i (pos 0) l (omega (arith, fits .codedSoft))
+
+    pub codedMark-written : getD (decodeSlices s mask llr lent .codedMark) i 0 ≡ codedMarkAt s (final s mask llr (lent .work)) i
+    codedMark-written =
+        ap (λ (x : Slices). getD (x .codedMark) i 0) written
+        ∙ overwrite-at (2 ^ s .m) _ (lent .codedMark) i 0 l (omega (arith, fits .codedMark))

@@ -1,6 +1,6 @@
 -- Two runs of the decoder, the second with its LLRs flipped by the block sent: every message of the second run is that of the first, flipped by
 -- the bit that it stands for, after any number of iterations; and so are the soft outputs.
-use Prim.Native.Nat.{ℕ, zero, suc, _+_, _-_, _*_, _/_, _^_, _≤_, _<_}
+use Prim.Native.Nat.{ℕ, zero, suc, _+_, _-_, _*_, _/_, _^_, _≤_, _<_, zero-le}
 use mathlib.Core.Path.{_≡_, refl, sym, _∙_, subst}
 use mathlib.Core.Bool.{Bool, false}
 use mathlib.Core.List.{List}
@@ -40,6 +40,7 @@ use Rattle.sweeps.specs.Iteration.{
 }
 use Rattle.settings.specs.declared.Settings.{Settings}
 use Rattle.decoder.specs.Decoder.{ruleOf, softAt, codedSoftAt, after}
+use Rattle.decoder.specs.OutputLaws.{soft-flipped}
 
 -- ---- the relation of the two workspaces
 
@@ -222,15 +223,14 @@ module _ (s : Settings) (mask : List ℕ) (u : ℕ → Bool) {llr llr′ old old
   unfolding after
   after-flips = iterations-flips (ruleOf s) (s .m) u t (start-flips (s .m) (s .ceiling) mask u runs)
 
-  -- a sum of both directions of one column
-  column-sum : (c i : ℕ) → c ≤ s .m → i < 2 ^ s .m
-      → add (ruleOf s) (L (s .m) (after s mask llr′ old′ t) c i) (R (s .m) (after s mask llr′ old′ t) c i)
-      ≡ flipped (column (s .m) u c i) (add (ruleOf s) (L (s .m) (after s mask llr old t) c i) (R (s .m) (after s mask llr old t) c i))
-  column-sum c i hc hi = rw (after-flips .left c i hc hi, after-flips .right c i hc hi) (add-flipped (ruleOf s) (column (s .m) u c i) _ _)
-
-  pub soft-flips : (i : ℕ) → i < 2 ^ s .m → softAt s (after s mask llr′ old′ t) i ≡ flipped (u i) (softAt s (after s mask llr old t) i)
-  soft-flips i hi = column-sum 0 i (omega arith) hi
+  pub soft-flips : (i : ℕ) → i < 2 ^ s .m
+      → softAt s mask (after s mask llr′ old′ t) i ≡ flipped (u i) (softAt s mask (after s mask llr old t) i)
+  soft-flips i hi =
+      rw (after-flips .left 0 i zero-le hi, after-flips .right 0 i zero-le hi)
+      (soft-flipped (ruleOf s) (getD mask i 0) (u i) _ _ (runs .frozen i hi))
 
   pub codedSoft-flips : (i : ℕ) → i < 2 ^ s .m
       → codedSoftAt s (after s mask llr′ old′ t) i ≡ flipped (coded (s .m) u i) (codedSoftAt s (after s mask llr old t) i)
-  codedSoft-flips i hi = rw (← column-coded (s .m) i u hi) (column-sum (s .m) i (le-refl (s .m)) hi)
+  codedSoft-flips i hi =
+      rw (← column-coded (s .m) i u hi, after-flips .left (s .m) i (le-refl (s .m)) hi, after-flips .right (s .m) i (le-refl (s .m)) hi)
+      (add-flipped (ruleOf s) (column (s .m) u (s .m) i) _ _)

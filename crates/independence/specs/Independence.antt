@@ -1,39 +1,28 @@
--- Document 01, "Message and outcome", whole: from samples to marks, how well a block is decoded does not depend on the message sent.
+-- Document 01, "Message and outcome", whole: from samples to marks, how well a block is decoded does not depend on the message sent. First for
+-- any front that is odd in its samples, then for document 01's.
 use Prim.Native.Nat.{ℕ, _^_, _<_}
-use mathlib.Core.Path.{_≡_, refl, ap, _∙_}
+use mathlib.Core.Path.{_≡_, sym, ap, _∙_}
 use mathlib.Core.Bool.{Bool, false}
 use mathlib.Core.List.{List}
 use lib.IntN.{ℤ, pos}
 use lib.ListN.{length, getD}
 use lib.Ieee.{Float}
+use Rattle.calls.specs.Bits.{bitOf}
 use Rattle.calls.specs.Signs.{flipped}
 use Rattle.polar.specs.declared.Code.{Code}
-use Rattle.calls.specs.Bits.{bitOf}
-use Rattle.polar.specs.Code.{uBit, encodeNumber, encodeBlock}
+use Rattle.polar.specs.Code.{uBit, coded, encodeNumber, encodeBlock}
 use Rattle.channel.specs.declared.Channel.{Channel}
-use Rattle.channel.specs.Front.{frontNumber, frontLlrs}
-use Rattle.channel.specs.FlippedSamples.{flippedSamples}
 use Rattle.settings.specs.declared.Settings.{Settings}
-use Rattle.settings.specs.declared.Room.{Room}
-use Rattle.settings.specs.Settings.{decodeNumber}
-use Rattle.decoder.specs.Decoder.{
-  Result,
-  roomOf,
-  decodeResult,
-  decodeSoft,
-  decodeMark,
-  decodeCodedSoft,
-  decodeCodedMark,
-}
-use Rattle.independence.specs.Outcome.{verdict-turned}
-use Rattle.independence.specs.Verdict.{verdict, turned}
+use Rattle.settings.specs.Slices.{Slices, lengthsOf}
+use Rattle.decoder.specs.Decoder.{Result, callNumber, decodeResult, decodeSlices}
+use Rattle.independence.specs.Front.{Front, OddFront, channelFront}
+use Rattle.independence.specs.Outcome.{verdict-flipped}
+use Rattle.independence.specs.Verdict.{verdict, flippedMark}
 use Rattle.independence.specs.Runs.{
   Calls,
   frozen-zero,
   sent-coded,
-  front-same,
-  length-llrs,
-  llrs-flip,
+  channel-odd,
   answer-same,
   soft-same,
   codedSoft-same,
@@ -41,114 +30,112 @@ use Rattle.independence.specs.Runs.{
   codedMark-same,
 }
 
--- the slices that a run writes, with what they held before
+-- the slices that a run writes, with what they held before: the front's LLRs, and the decoder's five
 pub record Lent : Type 0 where
   pub llr : List ℤ
-  pub soft : List ℤ
-  pub mark : List ℕ
-  pub codedSoft : List ℤ
-  pub codedMark : List ℕ
-  pub work : List ℤ
+  pub slices : Slices
 
 -- of the same lengths, whatever they held
 pub record SameLengths (a b : Lent) : Type 0 where
   pub llr : length (a .llr) ≡ length (b .llr)
-  pub soft : length (a .soft) ≡ length (b .soft)
-  pub mark : length (a .mark) ≡ length (b .mark)
-  pub codedSoft : length (a .codedSoft) ≡ length (b .codedSoft)
-  pub codedMark : length (a .codedMark) ≡ length (b .codedMark)
-  pub work : length (a .work) ≡ length (b .work)
+  pub slices : lengthsOf (a .slices) ≡ lengthsOf (b .slices)
 
 -- one run: the front on the samples, and the decoder on the LLRs that the front has just written
-module _ (s : Settings) (channel : Channel) (mask : List ℕ) (samples : List Float) (lent : Lent) where
+module _ {Samples : Type 0} (front : Front Samples) (s : Settings) (mask : List ℕ) (samples : Samples) (lent : Lent) where
   abbrev pub frontOf : ℕ
-  frontOf = frontNumber (s .m) (s .ceiling) channel samples (length (lent .llr))
+  frontOf = front .number samples (length (lent .llr))
 
   abbrev pub llrsOf : List ℤ
-  llrsOf = frontLlrs (s .m) (s .ceiling) channel samples (lent .llr)
-
-  abbrev pub lengthsOf : Room
-  lengthsOf = roomOf (lent .soft) (lent .mark) (lent .codedSoft) (lent .codedMark) (lent .work)
+  llrsOf = front .llrs samples (lent .llr)
 
   abbrev pub decoderOf : ℕ
-  decoderOf = decodeNumber s mask llrsOf lengthsOf
+  decoderOf = callNumber s mask llrsOf (lent .slices)
 
   abbrev pub answerOf : Result
-  answerOf = decodeResult s mask llrsOf lengthsOf (lent .work)
+  answerOf = decodeResult s mask llrsOf (lent .slices)
 
   abbrev pub softOf : ℕ → ℤ
-  softOf i = getD (decodeSoft s mask llrsOf lengthsOf (lent .work) (lent .soft)) i (pos 0)
+  softOf i = getD (decodeSlices s mask llrsOf (lent .slices) .soft) i (pos 0)
 
-  abbrev pub markOf : ℕ → ℕ
-  markOf i = getD (decodeMark s mask llrsOf lengthsOf (lent .work) (lent .mark)) i 0
+  abbrev pub marksOf : ℕ → ℕ
+  marksOf i = getD (decodeSlices s mask llrsOf (lent .slices) .mark) i 0
 
   abbrev pub codedSoftOf : ℕ → ℤ
-  codedSoftOf i = getD (decodeCodedSoft s mask llrsOf lengthsOf (lent .work) (lent .codedSoft)) i (pos 0)
+  codedSoftOf i = getD (decodeSlices s mask llrsOf (lent .slices) .codedSoft) i (pos 0)
 
-  abbrev pub codedMarkOf : ℕ → ℕ
-  codedMarkOf i = getD (decodeCodedMark s mask llrsOf lengthsOf (lent .work) (lent .codedMark)) i 0
+  abbrev pub codedMarksOf : ℕ → ℕ
+  codedMarksOf i = getD (decodeSlices s mask llrsOf (lent .slices) .codedMark) i 0
 
--- For every m, mask and message that the coder accepts, with the block sent in whatever slice; every setting and channel, accepted or not; any
--- samples; and any lent slices, of the same lengths in both runs:
-module _ (s : Settings) (channel : Channel) (mask message block : List ℕ) (samples : List Float) (first second : Lent) where
-  abbrev code : Code
-  code = record { m = s .m }
-
-  -- u, and the block sent
+-- the second run beside the first
+module _ {Samples : Type 0} (front : Front Samples) (s : Settings) (mask message block : List ℕ) (samples : Samples) (first second : Lent) where
+  -- u and its coded bits, for which marks and coded marks stand; and the block sent, in whatever slice
   abbrev u : ℕ → Bool
   u = uBit mask message
 
+  abbrev codedBit : ℕ → Bool
+  codedBit = coded (s .m) u
+
   abbrev sent : ℕ → Bool
-  sent i = bitOf (getD (encodeBlock code mask message block) i 0)
+  sent i = bitOf (getD (encodeBlock (record { m = s .m }) mask message block) i 0)
 
   -- the first run's samples, with exactly those of the first N negated whose place in the block sent holds a 1
-  abbrev flippedSamples : List Float
-  flippedSamples = negated (2 ^ s .m) sent samples
+  abbrev other : Samples
+  other = front .flip sent samples
+
+  -- neither front nor decoder refuses the first run
+  abbrev Accepted : Type 0
+  Accepted = (frontOf front s mask samples first ≡ 0) × (decoderOf front s mask samples first ≡ 0)
 
   pub record Alike : Type 0 where
     -- where the front refuses one run, it refuses the other with the same number
-    pub front : frontOf s channel mask flippedSamples second ≡ frontOf s channel mask samples first
+    pub fronts : frontOf front s mask other second ≡ frontOf front s mask samples first
     -- where the front accepts, the decoder gives both the same number, or ends both at the same iteration for the same reason
-    pub answer : frontOf s channel mask samples first ≡ 0 → answerOf s channel mask flippedSamples second ≡ answerOf s channel mask samples first
+    pub answers : frontOf front s mask samples first ≡ 0 → answerOf front s mask other second ≡ answerOf front s mask samples first
     -- where both accept: each soft output of the second run is minus that of the first where its bit is 1, and equal elsewhere
-    pub soft : frontOf s channel mask samples first ≡ 0 → decoderOf s channel mask samples first ≡ 0 → (i : ℕ) → i < 2 ^ s .m
-        → softOf s channel mask flippedSamples second i ≡ flipped (u i) (softOf s channel mask samples first i)
-    pub codedSoft : frontOf s channel mask samples first ≡ 0 → decoderOf s channel mask samples first ≡ 0 → (i : ℕ) → i < 2 ^ s .m
-        → codedSoftOf s channel mask flippedSamples second i ≡ flipped (sent i) (codedSoftOf s channel mask samples first i)
+    pub soft : Accepted → (i : ℕ) → i < 2 ^ s .m
+        → softOf front s mask other second i ≡ flipped (u i) (softOf front s mask samples first i)
+    pub codedSoft : Accepted → (i : ℕ) → i < 2 ^ s .m
+        → codedSoftOf front s mask other second i ≡ flipped (codedBit i) (codedSoftOf front s mask samples first i)
     -- ties stand at the same places, and every other mark is the opposite one exactly where its bit is 1
-    pub marks : frontOf s channel mask samples first ≡ 0 → decoderOf s channel mask samples first ≡ 0 → (i : ℕ) → i < 2 ^ s .m
-        → markOf s channel mask flippedSamples second i ≡ turned (u i) (markOf s channel mask samples first i)
-    pub codedMarks : frontOf s channel mask samples first ≡ 0 → decoderOf s channel mask samples first ≡ 0 → (i : ℕ) → i < 2 ^ s .m
-        → codedMarkOf s channel mask flippedSamples second i ≡ turned (sent i) (codedMarkOf s channel mask samples first i)
-    -- so a position is right, wrong or tied in the second run, judged by u and the block sent, as it is in the first, judged by zeros
-    pub verdicts : frontOf s channel mask samples first ≡ 0 → decoderOf s channel mask samples first ≡ 0 → (i : ℕ) → i < 2 ^ s .m
-        → verdict (u i) (markOf s channel mask flippedSamples second i) ≡ verdict false (markOf s channel mask samples first i)
-    pub codedVerdicts : frontOf s channel mask samples first ≡ 0 → decoderOf s channel mask samples first ≡ 0 → (i : ℕ) → i < 2 ^ s .m
-        → verdict (sent i) (codedMarkOf s channel mask flippedSamples second i) ≡ verdict false (codedMarkOf s channel mask samples first i)
+    pub marks : Accepted → (i : ℕ) → i < 2 ^ s .m
+        → marksOf front s mask other second i ≡ flippedMark (u i) (marksOf front s mask samples first i)
+    pub codedMarks : Accepted → (i : ℕ) → i < 2 ^ s .m
+        → codedMarksOf front s mask other second i ≡ flippedMark (codedBit i) (codedMarksOf front s mask samples first i)
+    -- so a position is right, wrong or tied in the second run, judged by u and its coded bits, as it is in the first, judged by zeros
+    pub verdicts : Accepted → (i : ℕ) → i < 2 ^ s .m
+        → verdict (u i) (marksOf front s mask other second i) ≡ verdict false (marksOf front s mask samples first i)
+    pub codedVerdicts : Accepted → (i : ℕ) → i < 2 ^ s .m
+        → verdict (codedBit i) (codedMarksOf front s mask other second i) ≡ verdict false (codedMarksOf front s mask samples first i)
 
-  pub message-independence : encodeNumber code mask message (length block) ≡ 0 → SameLengths first second → Alike
-  message-independence accepted same =
-      let calls : frontOf s channel mask samples first ≡ 0
-      → Calls s mask u sent (llrsOf s channel mask samples first) (llrsOf s channel mask flippedSamples second)
-      (lengthsOf s channel mask samples first) (lengthsOf s channel mask flippedSamples second) (first .work) (second .work)
-      = λ front. record {
+  -- for every m, mask and message that the coder accepts; every setting, accepted or not; any samples; and any lent slices, of the same lengths in
+  -- both runs
+  pub front-independence : OddFront (2 ^ s .m) front → encodeNumber (record { m = s .m }) mask message (length block) ≡ 0
+      → SameLengths first second → Alike
+  front-independence odd accepted same =
+      let calls : frontOf front s mask samples first ≡ 0
+      → Calls s mask u sent (llrsOf front s mask samples first) (llrsOf front s mask other second) (first .slices) (second .slices)
+      = λ ok. record {
         frozen = frozen-zero mask message;
-        block = sent-coded code mask message block accepted;
-        flips = llrs-flip (s .m) (s .ceiling) channel sent samples (first .llr) (second .llr) (same .llr) front;
-        long = length-llrs (s .m) (s .ceiling) channel sent samples (first .llr) (second .llr) (same .llr);
-        rooms = rw (same .soft, same .mark, same .codedSoft, same .codedMark, same .work);
-        work-long = refl;
-        work-long′ = refl;
+        block = sent-coded (record { m = s .m }) mask message block accepted;
+        flips = odd .llrs-flip sent samples (first .llr) (second .llr) (same .llr) ok;
+        long = odd .length-same other (second .llr) ∙ sym (same .llr) ∙ sym (odd .length-same samples (first .llr));
+        lengths = sym (same .slices);
       } in
       record {
-        front = front-same (s .m) (s .ceiling) channel sent samples (first .llr) (second .llr) (same .llr);
-        answer = λ front. answer-same (calls front);
-        soft = λ front decoder i h. soft-same (calls front) decoder i h (first .soft) (second .soft) refl refl;
-        codedSoft = λ front decoder i h. codedSoft-same (calls front) decoder i h (first .codedSoft) (second .codedSoft) refl refl;
-        marks = λ front decoder i h. mark-same (calls front) decoder i h (first .mark) (second .mark) refl refl;
-        codedMarks = λ front decoder i h. codedMark-same (calls front) decoder i h (first .codedMark) (second .codedMark) refl refl;
-        verdicts = λ front decoder i h.
-            ap (verdict (u i)) (mark-same (calls front) decoder i h (first .mark) (second .mark) refl refl) ∙ verdict-turned (u i) _;
-        codedVerdicts = λ front decoder i h.
-            ap (verdict (sent i)) (codedMark-same (calls front) decoder i h (first .codedMark) (second .codedMark) refl refl) ∙ verdict-turned (sent i) _;
+        fronts = odd .number-same sent samples (length (second .llr)) ∙ ap (front .number samples) (sym (same .llr));
+        answers = λ ok. answer-same (calls ok);
+        soft = λ ok i h. soft-same (calls (ok .0)) (ok .1) i h;
+        codedSoft = λ ok i h. codedSoft-same (calls (ok .0)) (ok .1) i h;
+        marks = λ ok i h. mark-same (calls (ok .0)) (ok .1) i h;
+        codedMarks = λ ok i h. codedMark-same (calls (ok .0)) (ok .1) i h;
+        verdicts = λ ok i h. ap (verdict (u i)) (mark-same (calls (ok .0)) (ok .1) i h) ∙ verdict-flipped (u i) _;
+        codedVerdicts = λ ok i h.
+            ap (verdict (codedBit i)) (codedMark-same (calls (ok .0)) (ok .1) i h) ∙ verdict-flipped (codedBit i) _;
       }
+
+-- document 01's front: a Gaussian, flipping or erasing channel, accepted or not
+pub message-independence : (s : Settings) (channel : Channel) (mask message block : List ℕ) (samples : List Float) (first second : Lent)
+    → encodeNumber (record { m = s .m }) mask message (length block) ≡ 0 → SameLengths first second
+    → Alike (channelFront s channel) s mask message block samples first second
+message-independence s channel mask message block samples first second =
+    front-independence (channelFront s channel) s mask message block samples first second (channel-odd s channel)

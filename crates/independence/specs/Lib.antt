@@ -1,4 +1,5 @@
 pub mod Verdict
+pub mod Front
 pub mod Flips
 pub mod Outcome
 pub mod Runs

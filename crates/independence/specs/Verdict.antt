@@ -15,8 +15,8 @@ verdict b (suc (suc zero)) = tied
 verdict b (suc (suc (suc n))) = wrong
 
 -- the opposite mark where a bit is 1; a tie stays
-abbrev pub turned : Bool → ℕ → ℕ
-turned false mark = mark
-turned true zero = 1
-turned true (suc zero) = 0
-turned true (suc (suc n)) = suc (suc n)
+abbrev pub flippedMark : Bool → ℕ → ℕ
+flippedMark false mark = mark
+flippedMark true zero = 1
+flippedMark true (suc zero) = 0
+flippedMark true (suc (suc n)) = suc (suc n)
