@@ -1,6 +1,6 @@
 -- Signed numbers in an `i16`. The code's view of a number z is `toZ w16 (ofZ w16 z)`, which is z where z fits; `-z` in
 -- the code is 0 - z.
-use Prim.Native.Nat.{_<_, _≤_, _^_}
+use Prim.Native.Nat.{_<_, _^_}
 use mathlib.Core.Path.{_≡_, refl, sym, subst, _∙_}
 use mathlib.Core.Bool.{true, false, true≢false}
 use native.Mathlib.Omega.{arith}

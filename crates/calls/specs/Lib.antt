@@ -1,10 +1,10 @@
 pub mod Numbers
+pub mod NumberLaws
 pub mod Memory
 pub mod MemoryLaws
-pub mod NumberLaws
+pub mod WrittenLaws
 pub mod Signs
 pub mod SignLaws
-pub mod WrittenLaws
 pub mod Bits
 pub mod BitLaws
 pub mod Every

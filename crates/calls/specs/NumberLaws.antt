@@ -1,7 +1,7 @@
 -- What an accepted call tells of its tests, and the range of a refusal's number.
 use Prim.Native.Nat.{ℕ, zero, suc, _<_, _≤_}
 use mathlib.Core.Path.{_≡_, refl}
-use mathlib.Core.Bool.{Bool, true, false, _&&_}
+use mathlib.Core.Bool.{Bool, true, false, _&&_, and-eq-true-iff}
 use native.Mathlib.Omega.{arith}
 use lib.Dec.{leb, lit<}
 use borrow.Author.Tests.{leb-true}
@@ -62,9 +62,7 @@ first-refusal-passed zero next h = (refl, h)
 first-refusal-passed (suc number) next h = absurd (omega arith)
 
 pub and-passed : (a b : Bool) → a && b ≡ true → (a ≡ true) × (b ≡ true)
-and-passed true true h = (refl, refl)
-and-passed true false h = (refl, h)
-and-passed false b h = (h, cc)
+and-passed a b = and-eq-true-iff a b .0
 
 pub between-passed : (low high n : ℕ) → between low high n ≡ true → (low ≤ n) × (n ≤ high)
 between-passed low high n h =

@@ -1,11 +1,11 @@
 -- Laws of the sign: a number's size stays when its sign turns, a sign turned twice is as it was, and two turns are one
 -- by the exclusive-or of their bits.
-use Prim.Native.Nat.{ℕ, zero, suc}
+use Prim.Native.Nat.{zero, suc}
 use mathlib.Core.Path.{_≡_, refl, sym}
 use mathlib.Core.Bool.{Bool, true, false}
 use lib.IntN.{ℤ, pos, negsuc, negℤ, negℤ-negℤ, natAbs}
 use Rattle.calls.specs.Bits.{xor}
-use Rattle.calls.specs.Signs.{isNegative, flipped}
+use Rattle.calls.specs.Signs.{flipped}
 
 pub size-neg : (z : ℤ) → natAbs (negℤ z) ≡ natAbs z
 size-neg (pos zero) = refl

@@ -8,7 +8,7 @@ ghost use lib.IntN.{natAbs};
 ghost use Rattle.calls.specs.Bounds.{largestCeiling};
 ghost use Rattle.calls.specs.Numbers.{numberOf};
 
-// The largest m and the largest ceiling.
+// The ends of two ranges: of m, and of the ceiling.
 pub const LARGEST_M: u32 = 10;
 
 pub const LARGEST_CEILING: u32 = 2047;

@@ -1,5 +1,5 @@
 -- The turns of the loops over runs and over positions of a step.
-use Prim.Native.Nat.{ℕ, zero, suc, _+_, _-_, _^_, _≤_, _<_}
+use Prim.Native.Nat.{ℕ, suc, _+_, _-_, _^_, _≤_, _<_}
 use mathlib.Core.Path.{_≡_, refl, sym, ap, ap₂, _∙_}
 use mathlib.Core.Bool.{Bool}
 use mathlib.Core.List.{List}
@@ -20,9 +20,9 @@ use Rattle.calls.specs.MemoryLaws.{
   overwriteFrom-behind,
   overwriteFrom-store,
 }
-use Rattle.calls.specs.Bits.{xor, byteOf, bitOf}
+use Rattle.calls.specs.Bits.{byteOf}
 use Rattle.polar.specs.Code.{coded}
-use Rattle.polar.specs.Columns.{digit, bySide, columnStep, column}
+use Rattle.polar.specs.Columns.{digit, columnStep, column}
 use Rattle.calls.specs.BitLaws.{byte-of-bit, xor-bytes}
 use Rattle.polar.specs.BlockLaws.{bitsOf, Bits, bits-own, bits-written, read-back}
 use Rattle.polar.specs.DigitLaws.{

@@ -1,18 +1,17 @@
 -- What an accepted call of the coder or of the read-out tells of what it was handed.
-use Prim.Native.Nat.{ℕ, zero, suc, _^_, _≤_, _<_}
-use mathlib.Core.Path.{_≡_, refl}
-use mathlib.Core.Bool.{Bool, true, _&&_}
+use Prim.Native.Nat.{ℕ, _^_, _≤_, _<_}
+use mathlib.Core.Path.{_≡_}
+use mathlib.Core.Bool.{true}
 use mathlib.Core.List.{List}
 use lib.Dec.{leb}
 use lib.ListN.{length, getD}
 use borrow.Author.Tests.{leb-true}
 use Rattle.calls.specs.Bounds.{largestM}
 use Rattle.calls.specs.EveryLaws.{every-at}
-use Rattle.calls.specs.Numbers.{check}
 use Rattle.calls.specs.NumberLaws.{check-passed, first-refusal-passed, and-passed, between-passed}
 use Rattle.polar.specs.declared.Code.{Code}
 use Rattle.polar.specs.Mask.{maskAccepted}
-use Rattle.polar.specs.Code.{informationCount, areBits, codeNumber, messageNumber, encodeNumber, readOutNumber}
+use Rattle.polar.specs.Code.{informationCount, areBits, codeNumber, encodeNumber, readOutNumber}
 
 pub bits-at : (n : ℕ) (l : List ℕ) → areBits n l ≡ true → (i : ℕ) → i < n → getD l i 0 ≤ 1
 bits-at n l h i q = leb-true (getD l i 0) 1 (every-at n i (λ j. leb (getD l j 0) 1) h q)

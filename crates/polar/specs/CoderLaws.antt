@@ -1,8 +1,8 @@
 -- What the coder and the read-out do together: coding twice returns the message, coding is linear, and the read-out of
 -- u is the message.
 use Prim.Native.Nat.{ℕ, zero, suc, _+_, _^_, _≤_, _<_}
-use mathlib.Core.Path.{_≡_, refl, sym, ap, ap₂, _∙_}
-use mathlib.Core.Bool.{Bool, true, false, _&&_}
+use mathlib.Core.Path.{_≡_, refl, sym, ap, _∙_}
+use mathlib.Core.Bool.{Bool, true}
 use mathlib.Core.List.{List, [], _∷_, _++_, append-nil}
 use native.Mathlib.Nat.{add-zero}
 use native.Mathlib.Numerals.{add-one}
@@ -13,10 +13,10 @@ use lib.Seq.{take-suc, getD-take}
 use borrow.Author.Tests.{le-leb}
 use Rattle.calls.specs.Bounds.{largestM}
 use Rattle.calls.specs.EveryLaws.{every-of}
-use Rattle.calls.specs.Memory.{overwrite, unlessRefused}
-use Rattle.calls.specs.MemoryLaws.{length-overwrite, overwrite-same}
+use Rattle.calls.specs.Memory.{overwrite}
+use Rattle.calls.specs.MemoryLaws.{overwrite-same}
 use Rattle.polar.specs.declared.Code.{Code}
-use Rattle.calls.specs.Bits.{xor, byteOf, bitOf}
+use Rattle.calls.specs.Bits.{xor, byteOf}
 use Rattle.polar.specs.Mask.{byKind}
 use Rattle.polar.specs.Code.{
   informationCount,

@@ -18,7 +18,7 @@ use native.Mathlib.Omega.{arith}
 use lib.Bits.{bitAnd, and-high}
 use lib.Pow.{pow-pos, pow-add, high, split, shl-shr}
 use Rattle.calls.specs.Bits.{xor}
-use Rattle.polar.specs.Columns.{digit, bySide, columnStep}
+use Rattle.polar.specs.Columns.{digit, columnStep}
 
 pub digit-cases : (t i : ℕ) {A : Type 0} → (digit t i ≡ 0 → A) → (digit t i ≡ 1 → A) → A
 digit-cases t i {A} clear set = go (digit t i) refl

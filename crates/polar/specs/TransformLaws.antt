@@ -13,7 +13,7 @@ use lib.Pow.{shr-shr}
 use borrow.Author.Tests.{eq-eqb, ne-eqb, eqb-true, eqb-false}
 use Rattle.calls.specs.Bits.{xor}
 use Rattle.polar.specs.Code.{parity, includes, coded}
-use Rattle.polar.specs.Columns.{digit, bySide, columnStep, column}
+use Rattle.polar.specs.Columns.{digit, columnStep, column}
 use Rattle.calls.specs.BitLaws.{xor-cancel, and-xor}
 use Rattle.polar.specs.ParityLaws.{parity-same, parity-none, parity-xor, parity-halves}
 

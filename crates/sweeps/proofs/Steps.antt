@@ -1,12 +1,12 @@
 -- One turn of each sweep's loop.
-use Prim.Native.Nat.{ℕ, suc, _+_, _-_, _*_, _<_, _≤_}
-use mathlib.Core.Path.{_≡_, refl, sym, _∙_}
+use Prim.Native.Nat.{ℕ, suc, _+_, _-_, _<_}
+use mathlib.Core.Path.{_≡_, sym, _∙_}
 use mathlib.Core.List.{List}
 use native.Mathlib.Numerals.{add-one}
 use native.Mathlib.Omega.{arith}
 use lib.IntN.{ℤ}
 use Rattle.message.specs.declared.MinSum.{MinSum}
-use Rattle.sweeps.specs.Iteration.{leftStep, rightStep, leftSteps, rightSteps}
+use Rattle.sweeps.specs.Iteration.{leftSteps, rightSteps}
 use Rattle.sweeps.specs.IterationLaws.{left-joined, right-joined}
 use Rattle.sweeps.specs.Private.{rowStep, Rows}
 

@@ -1,27 +1,18 @@
 -- Laws of the iteration: the workspace keeps its length, all messages stay within the ceiling, and each step of both
 -- sweeps is the one formula of Private over two rows.
 use Prim.Native.Nat.{ℕ, zero, suc, _+_, _-_, _*_, _^_, _≤_, _<_, zero-le}
-use mathlib.Core.Path.{_≡_, refl, sym, ap, ap₂, _∙_, fun-ext}
-use mathlib.Core.Bool.{Bool, true, false, cond}
-use mathlib.Core.List.{List, [], _∷_}
+use mathlib.Core.Path.{_≡_, refl, ap, _∙_, fun-ext}
+use mathlib.Core.List.{List}
 use native.Mathlib.Nat.{le-trans, le-refl}
 use native.Mathlib.Omega.{arith}
-use lib.Dec.{eqb}
 use lib.IntN.{ℤ, pos, natAbs}
 use lib.ListN.{length, getD}
 use Rattle.calls.specs.Bounds.{largestM, largestScale}
 use Rattle.calls.specs.Memory.{overwrite, overwriteFrom}
-use Rattle.calls.specs.MemoryLaws.{
-  length-overwrite,
-  length-overwriteFrom,
-  overwrite-every,
-  overwriteFrom-every,
-  overwrite-at,
-}
+use Rattle.calls.specs.MemoryLaws.{length-overwrite, length-overwriteFrom, overwriteFrom-every, overwrite-at}
 use Rattle.calls.specs.Signs.{flipped}
 use Rattle.calls.specs.SignLaws.{size-flipped}
 use Rattle.polar.specs.Mask.{Kind, information, frozen, kindOf, onKind}
-use Rattle.polar.specs.Columns.{digit, bySide}
 use Rattle.polar.specs.DigitLaws.{digit-cases}
 use Rattle.message.specs.declared.MinSum.{MinSum}
 use Rattle.message.specs.Message.{add, f}
@@ -30,7 +21,6 @@ use Rattle.sweeps.specs.Workspace.{L, R, row, setRow, workspaceLength}
 use Rattle.sweeps.specs.WorkspaceLaws.{WorkspaceFits, length-setRow}
 use Rattle.sweeps.specs.Private.{joinedAt, rowStep}
 use Rattle.sweeps.specs.Iteration.{
-  leftAt,
   rightAt,
   leftStep,
   rightStep,

@@ -1,7 +1,7 @@
 -- Definitions for the contracts of private functions: what the steps of the code compute, in the shape of the code.
 -- Both sweeps take their steps by one formula over two rows, in flat places of the workspace. A reader of the contracts
 -- of `begin` and `iterate` needs none of it. Definitions only.
-use Prim.Native.Nat.{ℕ, suc, _+_, _-_, _*_, _^_, _≤_, _<_}
+use Prim.Native.Nat.{ℕ, _+_, _-_, _*_, _^_, _≤_, _<_}
 use mathlib.Core.Path.{_≡_}
 use mathlib.Core.Bool.{cond}
 use mathlib.Core.List.{List}
@@ -14,7 +14,7 @@ use Rattle.polar.specs.Columns.{digit, bySide}
 use Rattle.polar.specs.DigitLaws.{Multiple}
 use Rattle.message.specs.declared.MinSum.{MinSum}
 use Rattle.message.specs.Message.{add, f}
-use Rattle.sweeps.specs.Workspace.{row, setRow, workspaceLength}
+use Rattle.sweeps.specs.Workspace.{row, setRow}
 
 abbrev pub messageAt : List ℤ → ℕ → ℤ
 messageAt w j = getD w j (pos 0)

@@ -1,9 +1,8 @@
 -- `butterflies` meets its contract: the first p positions, whole runs of d, are as the step makes them.
-use Prim.Native.Nat.{_≤_, _<_, _-_, _+_, _^_, zero-le}
-use mathlib.Core.Path.{_≡_, refl, _∙_}
+use Prim.Native.Nat.{_≤_, _-_, _+_, _^_, zero-le}
+use mathlib.Core.Path.{_≡_, _∙_}
 use mathlib.Core.Logic.{⊎-elim}
 use native.Mathlib.Omega.{arith}
-use lib.ListN.{length}
 use lib.Pow.{pow-pos}
 use Rattle.polar.specs.Columns.{digit}
 use Rattle.polar.specs.DigitLaws.{mask-clear, mask-set, run-fits, upper-fits}

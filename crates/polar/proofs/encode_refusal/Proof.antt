@@ -1,5 +1,4 @@
 -- `encode_refusal` meets its contract: the code's tests, and where they pass the message's.
-use Prim.Native.Nat.{ℕ}
 use mathlib.Core.Path.{_≡_, sym, ap, _∙_}
 use borrow.Author.Needs.{needs}
 use denote.Ref.{now}

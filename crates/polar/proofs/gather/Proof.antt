@@ -1,10 +1,10 @@
 -- `gather` meets its contract.
 use Prim.Native.Nat.{ℕ, _≤_, _-_, _<_, zero-le}
-use mathlib.Core.Path.{_≡_, refl, sym, _∙_}
+use mathlib.Core.Path.{_≡_, sym, _∙_}
+use mathlib.Core.Bool.{Bool, true}
 use mathlib.Core.Logic.{⊎-elim}
 use native.Mathlib.Omega.{arith}
 use borrow.Author.Needs.{needs}
-use mathlib.Core.Bool.{Bool, true, false}
 use lib.ListN.{length, getD}
 use Rattle.polar.specs.Mask.{isInformation}
 use Rattle.polar.specs.Code.{informationCount}

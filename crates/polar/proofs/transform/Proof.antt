@@ -1,6 +1,5 @@
 -- `transform` meets its contract: after s steps the block holds column s, and the last column is the closed form.
 use Prim.Native.Nat.{_≤_, _-_, zero-le}
-use mathlib.Core.Path.{_≡_}
 use native.Mathlib.Omega.{arith}
 use Rattle.polar.proofs.Steps.{
   Columned,

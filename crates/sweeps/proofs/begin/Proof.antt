@@ -1,11 +1,10 @@
 -- `begin` meets its contract.
 use Prim.Native.Nat.{_+_, _*_, _≤_}
-use mathlib.Core.Path.{_≡_, _∙_}
+use mathlib.Core.Path.{_∙_}
 use denote.Ref.{now}
 use lib.ListN.{length}
 use native.Mathlib.Omega.{arith}
 use borrow.Author.Needs.{needs}
-use lib.Pow.{pow-pos}
 use Rattle.sweeps.specs.Iteration.{start}
 use Rattle.sweeps.proofs.begin.Statement.{statement}
 use Rattle.sweeps.proofs.begin.Tie as tie

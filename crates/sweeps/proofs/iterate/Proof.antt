@@ -1,5 +1,5 @@
 -- `iterate` meets its contract.
-use mathlib.Core.Path.{_≡_, ap, _∙_}
+use mathlib.Core.Path.{_∙_}
 use borrow.Author.Needs.{needs}
 use Rattle.sweeps.specs.IterationLaws.{valid-left}
 use Rattle.sweeps.proofs.iterate.Statement.{statement}

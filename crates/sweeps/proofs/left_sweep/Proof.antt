@@ -4,7 +4,7 @@ use mathlib.Core.Path.{_≡_, refl, ap, _∙_}
 use native.Mathlib.Omega.{arith}
 use lib.ListN.{length}
 use Rattle.sweeps.specs.Iteration.{leftSteps}
-use Rattle.sweeps.specs.IterationLaws.{WorkspaceValid, valid-left, length-left}
+use Rattle.sweeps.specs.IterationLaws.{valid-left, length-left}
 use Rattle.sweeps.proofs.Steps.{left-rows, left-next}
 use Rattle.sweeps.proofs.left_sweep.Statement.{statement}
 use Rattle.sweeps.proofs.left_sweep.Tie as tie

@@ -1,7 +1,6 @@
 -- `new_message` meets its contract.
-use mathlib.Core.Path.{_≡_, _∙_}
+use mathlib.Core.Path.{_∙_}
 use native.Mathlib.Omega.{arith}
-use borrow.Author.Needs.{needs}
 use Rattle.calls.proofs.Signed.{told}
 use Rattle.sweeps.specs.Private.{newAt}
 use Rattle.sweeps.proofs.new_message.Statement.{statement}

@@ -4,7 +4,7 @@ use mathlib.Core.Path.{_≡_, refl, ap, _∙_}
 use native.Mathlib.Omega.{arith}
 use lib.ListN.{length}
 use Rattle.sweeps.specs.Iteration.{rightSteps}
-use Rattle.sweeps.specs.IterationLaws.{WorkspaceValid, valid-right, length-right}
+use Rattle.sweeps.specs.IterationLaws.{valid-right, length-right}
 use Rattle.sweeps.proofs.Steps.{right-rows, right-next}
 use Rattle.sweeps.proofs.right_sweep.Statement.{statement}
 use Rattle.sweeps.proofs.right_sweep.Tie as tie

@@ -5,7 +5,6 @@ use native.Mathlib.Nat.{add-zero}
 use native.Mathlib.Omega.{arith}
 use borrow.Author.Needs.{needs}
 use denote.Ref.{now}
-use lib.IntN.{pos}
 use lib.ListN.{length, getD, set}
 use lib.Pow.{pow-pos}
 use mir.Syntax.{w16}
