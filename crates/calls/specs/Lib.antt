@@ -4,3 +4,5 @@ pub mod MemoryLaws
 pub mod NumberLaws
 pub mod Signs
 pub mod SignLaws
+pub mod SignTestLaws
+pub mod Texts

@@ -4,7 +4,7 @@ use mathlib.Core.Bool.{cond}
 use mathlib.Core.List.{List, [], _∷_}
 use lib.Dec.{eqb}
 use lib.IntN.{ℤ}
-use Rattle.scan.specs.Reading.{Reading, found, malformed, then, first, rest}
+use Rattle.scan.specs.Reading.{Reading, found, malformed, bind, first, rest}
 use Rattle.scan.specs.Numbers.{number}
 
 -- the text behind its leading spaces, bytes 32
@@ -21,9 +21,9 @@ separator (suc n) s = cond (eqb (first s) 32) (found tt (spaces s)) malformed
 unfoldable pub line : ℕ → List ℕ → Reading (List ℤ)
 line zero s = found [] s
 line (suc n) s =
-    then (number s) (λ z s.
-    then (separator n s) (λ _ s.
-    then (line n s) (λ zs s. found (z ∷ zs) s)))
+    bind (number s) (λ z s.
+    bind (separator n s) (λ _ s.
+    bind (line n s) (λ zs s. found (z ∷ zs) s)))
 
 -- exactly these bytes
 unfoldable pub literal : List ℕ → List ℕ → Reading Unit

@@ -10,29 +10,30 @@ use lib.Dec.{leb, eqb}
 use lib.IntN.{ℤ, pos, negsuc, negℤ, natAbs}
 use lib.ListN.{length, getD, drop, take, set, drop-of-length-le}
 use lib.Seq.{drop-cons, take-suc-set}
-use Rattle.scan.specs.Reading.{Reading, found, malformed, then, first, rest}
+use Rattle.calls.specs.SignLaws.{size-neg}
+use Rattle.scan.specs.Reading.{Reading, found, malformed, bind, first, rest}
 use Rattle.scan.specs.Numbers.{isDigit, digits, natural, number}
 use Rattle.scan.specs.Lines.{spaces, separator, line, literal}
 
 -- ---- one reading after another
 
 module _ {A B : Type 0} where
-  pub then-go : {r : Reading A} {a : A} {s : List ℕ} (next : A → List ℕ → Reading B) → r ≡ found a s → then r next ≡ next a s
-  then-go next e = rw e
+  pub bind-of-found : {r : Reading A} {a : A} {s : List ℕ} (next : A → List ℕ → Reading B) → r ≡ found a s → bind r next ≡ next a s
+  bind-of-found next e = rw e
 
-  pub then-stop : {r : Reading A} (next : A → List ℕ → Reading B) → r ≡ malformed → then r next ≡ malformed
-  then-stop next e = rw e
+  pub bind-of-malformed : {r : Reading A} (next : A → List ℕ → Reading B) → r ≡ malformed → bind r next ≡ malformed
+  bind-of-malformed next e = rw e
 
   -- where two readings have found something, each has
-  pub then-found : (r : Reading A) (next : A → List ℕ → Reading B) (b : B) (u : List ℕ) → then r next ≡ found b u →
+  pub bind-found : (r : Reading A) (next : A → List ℕ → Reading B) (b : B) (u : List ℕ) → bind r next ≡ found b u →
       (a : A) × (s : List ℕ) × (r ≡ found a s) × (next a s ≡ found b u)
-  then-found (found a s) next b u e = (a, s, refl, e)
-  then-found malformed next b u e = let h : _≡_ {A = ℕ} 0 1 = cc in absurd (omega arith)
+  bind-found (found a s) next b u e = (a, s, refl, e)
+  bind-found malformed next b u e = let h : _≡_ {A = ℕ} 0 1 = cc in absurd (omega arith)
 
-  pub then-then : {C : Type 0} (r : Reading A) (next : A → List ℕ → Reading B) (last : B → List ℕ → Reading C) →
-      then (then r next) last ≡ then r (λ a s. then (next a s) last)
-  then-then (found a s) next last = refl
-  then-then malformed next last = refl
+  pub bind-bind : {C : Type 0} (r : Reading A) (next : A → List ℕ → Reading B) (last : B → List ℕ → Reading C) →
+      bind (bind r next) last ≡ bind r (λ a s. bind (next a s) last)
+  bind-bind (found a s) next last = refl
+  bind-bind malformed next last = refl
 
 -- ---- the byte at a position, and the text behind it
 
@@ -136,11 +137,11 @@ natural-size s v u e = split (isDigit (first s)) e
     split false e = let h : _≡_ {A = ℕ} 0 1 = cc in absurd (omega arith)
 
 pub number-minus : (i : ℕ) (t : List ℕ) → eqb (first (drop i t)) 45 ≡ true →
-    number (drop i t) ≡ then (natural (drop (i + 1) t)) (λ n s. found (negℤ (pos n)) s)
+    number (drop i t) ≡ bind (natural (drop (i + 1) t)) (λ n s. found (negℤ (pos n)) s)
 unfolding number
 number-minus i t e = rw (e, rest-drop i t)
 
-pub number-plain : (s : List ℕ) → eqb (first s) 45 ≡ false → number s ≡ then (natural s) (λ n s. found (pos n) s)
+pub number-plain : (s : List ℕ) → eqb (first s) 45 ≡ false → number s ≡ bind (natural s) (λ n s. found (pos n) s)
 unfolding number
 number-plain s e = rw e
 
@@ -187,7 +188,7 @@ literal-end name i s h = rw (drop-of-length-le name h)
 
 -- values read before, put in front of those still to be read
 abbrev pub behind : List ℤ → Reading (List ℤ) → Reading (List ℤ)
-behind before r = then r (λ zs s. found (before ++ zs) s)
+behind before r = bind r (λ zs s. found (before ++ zs) s)
 
 pub behind-none : (r : Reading (List ℤ)) → behind [] r ≡ r
 behind-none (found zs s) = refl
@@ -202,7 +203,7 @@ unfolding line
 line-none zero s h = refl
 line-none (suc n) s h = absurd (omega arith)
 
-line-some : (n : ℕ) (s : List ℕ) → 0 < n → line n s ≡ then (number s) (λ z u. then (separator (n - 1) u) (λ _ w. behind (z ∷ []) (line (n - 1) w)))
+line-some : (n : ℕ) (s : List ℕ) → 0 < n → line n s ≡ bind (number s) (λ z u. bind (separator (n - 1) u) (λ _ w. behind (z ∷ []) (line (n - 1) w)))
 unfolding line
 line-some zero s h = absurd (omega arith)
 line-some (suc n) s h = rw (sub-one (suc n))
@@ -225,22 +226,17 @@ behind-stored values i z r h = behind-both (take i values) (z ∷ []) r ∙ rw (
 
 -- ---- the sizes of values
 
-pub size-neg : (z : ℤ) → natAbs (negℤ z) ≡ natAbs z
-size-neg (pos zero) = refl
-size-neg (pos (suc n)) = refl
-size-neg (negsuc n) = refl
-
 pub number-size : (s : List ℕ) (z : ℤ) (u : List ℕ) → number s ≡ found z u → natAbs z ≤ 999999
 unfolding number
 number-size s z u e = split (eqb (first s) 45) e
   where
     split : (minus : Bool) →
-        cond minus (then (natural (rest s)) (λ n s. found (negℤ (pos n)) s)) (then (natural s) (λ n s. found (pos n) s)) ≡ found z u → natAbs z ≤ 999999
+        cond minus (bind (natural (rest s)) (λ n s. found (negℤ (pos n)) s)) (bind (natural s) (λ n s. found (pos n) s)) ≡ found z u → natAbs z ≤ 999999
     split true e =
-        let (n, w, h, g) = then-found (natural (rest s)) (λ n s. found (negℤ (pos n)) s) z u e in
+        let (n, w, h, g) = bind-found (natural (rest s)) (λ n s. found (negℤ (pos n)) s) z u e in
         let k : negℤ (pos n) ≡ z = cc in rw (← k, size-neg (pos n)) (natural-size (rest s) n w h)
     split false e =
-        let (n, w, h, g) = then-found (natural s) (λ n s. found (pos n) s) z u e in
+        let (n, w, h, g) = bind-found (natural s) (λ n s. found (pos n) s) z u e in
         let k : pos n ≡ z = cc in rw (← k) (natural-size s n w h)
 
 -- a line that was read begins with a value, and goes on with a line that is one value shorter
@@ -248,9 +244,9 @@ line-parts : (n : ℕ) (s : List ℕ) (zs : List ℤ) (u : List ℕ) → line (s
     (z : ℤ) × (ys : List ℤ) × (w : List ℕ) × (natAbs z ≤ 999999) × (line n w ≡ found ys u) × (z ∷ ys ≡ zs)
 unfolding line
 line-parts n s zs u e =
-    let (z, v, h, e₁) = then-found (number s) (λ z s. then (separator n s) (λ _ s. behind (z ∷ []) (line n s))) zs u e in
-    let (_, w, _, e₂) = then-found (separator n v) (λ _ s. behind (z ∷ []) (line n s)) zs u e₁ in
-    let (ys, x, g, e₃) = then-found (line n w) (λ ys s. found (z ∷ ys) s) zs u e₂ in
+    let (z, v, h, e₁) = bind-found (number s) (λ z s. bind (separator n s) (λ _ s. behind (z ∷ []) (line n s))) zs u e in
+    let (_, w, _, e₂) = bind-found (separator n v) (λ _ s. behind (z ∷ []) (line n s)) zs u e₁ in
+    let (ys, x, g, e₃) = bind-found (line n w) (λ ys s. found (z ∷ ys) s) zs u e₂ in
     let same : x ≡ u = cc in
     (z, ys, w, number-size s z v h, rw same at g, cc)
 

@@ -8,9 +8,10 @@ use lib.ListN.{drop}
 use mir.Syntax.{w32}
 use mir.Val.{SFits, toZ}
 use mir.Facts.{toZ-ofZ, toZ-pos}
+use Rattle.calls.specs.SignLaws.{size-neg}
 use Rattle.scan.specs.Reading.{found}
 use Rattle.scan.specs.Numbers.{natural}
-use Rattle.scan.specs.ScanLaws.{natural-missing, natural-found, natural-size, size-neg}
+use Rattle.scan.specs.ScanLaws.{natural-missing, natural-found, natural-size}
 use Rattle.scan.proofs.Signed.{six-digits-fit}
 use Rattle.scan.proofs.signed_natural.Statement.{statement}
 use Rattle.scan.proofs.signed_natural.Tie as tie

@@ -1,0 +1,110 @@
+-- `row` meets its contract.
+use mathlib.Core.Path.{_≡_, ap, _∙_}
+use mathlib.Core.List.{List}
+use borrow.Author.Tests.{eq-eqb, ne-eqb}
+use lib.IntN.{ℤ, pos}
+use lib.ListN.{getD, drop, take}
+use mir.Syntax.{w16}
+use mir.Val.{toZ, ofZ}
+use mir.Facts.{toZ-ofZ}
+use Prim.Native.Nat.{ℕ}
+use Rattle.scan.specs.Reading.{found, malformed}
+use Rattle.scan.specs.Lines.{line}
+use Rattle.scan.specs.Answers.{readTo}
+use Rattle.report_input.specs.Input.{at, unsigned, maskValue, llrValue}
+use Rattle.report_input.specs.InputLaws.{row-found, row-malformed}
+use Rattle.scan.proofs.Signed.{kept}
+use borrow.Author.Needs.{needs}
+use Rattle.report_input.proofs.row.Statement.{statement}
+use Rattle.report_input.proofs.row.Tie as tie
+use Rattle.report_input.proofs.row.Reads as reads
+use Rattle.report_input.proofs.row.Lts as lts
+use Rattle.report_input.proofs.llr_value.Reads as llr-value-reads
+use Rattle.report_input.proofs.mask_value.Reads as mask-value-reads
+use Rattle.report_input.proofs.unsigned.Reads as unsigned-reads
+use Rattle.scan.proofs.line.Reads as line-reads
+
+-- the three values that were read
+abbrev values : tie.After-known-told → List ℤ
+values c = c .before .before .before .before .line .last .1 .1 .1 .0
+
+read : (c : tie.After-known-told) →
+    let a = c .before .before .before .before .before .before .before .args in
+    line 3 (drop (a .at) (a .text .now)) ≡ found (take 3 (values c)) (drop (c .before .line2 .given .0 .0) (a .text .now))
+read c = c .before .before .before .before .line .ensures .0 ∙ ap (readTo (c .before .before .before .before .before .before .before .args .text .now) (take 3 (values c))) (c .before .line2 .given .1)
+
+position : (c : tie.After-unsigned) → c .unsigned .result ≡ unsigned (at (values (c .before .before)) 0)
+position c = c .unsigned .ensures ∙ ap unsigned (kept (at (values (c .before .before)) 0) (c .before .unsigned-arg .given))
+
+slice-aggregate-line : tie.Need-slice-aggregate-line
+slice-aggregate-line c = search needs
+
+line-requires : tie.Need-line-requires
+line-requires c κs = search needs
+
+enum-known-line : tie.Need-enum-known-line
+enum-known-line c = search needs
+
+enum-told : tie.Need-enum-told
+enum-told c = search needs
+
+returns : tie.Need-returns
+returns c =
+    let a = c .before .before .before .before .before .before .args in
+    let called = c .before .before .before .line in
+    row-malformed (a .position) (drop (a .at) (a .text .now)) (called .ensures .0 ∙ ap (readTo (a .text .now) (take 3 (called .last .1 .1 .1 .0))) (c .enum-told .given .1))
+
+array-copy-out-unsigned : tie.Need-array-copy-out-unsigned
+array-copy-out-unsigned c = search needs
+
+unsigned-requires : tie.Need-unsigned-requires
+unsigned-requires c κs = search needs
+
+cast-if1 : tie.Need-cast-if1
+cast-if1 c = search needs
+
+array-copy-out-mask-value : tie.Need-array-copy-out-mask-value
+array-copy-out-mask-value c = search needs
+
+mask-value-requires : tie.Need-mask-value-requires
+mask-value-requires c κs = search needs
+
+array-copy-out-llr-value : tie.Need-array-copy-out-llr-value
+array-copy-out-llr-value c = search needs
+
+llr-value-requires : tie.Need-llr-value-requires
+llr-value-requires c κs = search needs
+
+returns-2 : tie.Need-returns-2
+returns-2 c =
+    let start = c .before .before .before .before .before .before .before in
+    let a = start .before .before .before .before .before .before .before .args in
+    let zs = values start in
+    let frozen : c .before .before .mask-value .result ≡ maskValue (at zs 1) = c .before .before .mask-value .ensures ∙ ap maskValue (kept (at zs 1) (c .before .before .before .mask-value-arg .given)) in
+    let llr : toZ w16 (ofZ w16 (c .llr-value .result)) ≡ llrValue (at zs 2) =
+    toZ-ofZ {w = w16} (record { sfits = c .llr-value .ok }) ∙ c .llr-value .ensures ∙ ap llrValue (kept (at zs 2) (c .before .llr-value-arg .given)) in
+    row-found (a .position) zs _ _ (read start) ∙ rw (← position (c .before .before .before .before .before), eq-eqb _ _ (c .before .before .before .before .if1 .taken), frozen, llr)
+
+returns-3 : tie.Need-returns-3
+returns-3 c =
+    let start = c .before .before .before in
+    row-found (start .before .before .before .before .before .before .before .args .position) (values start) _ _ (read start) ∙ rw (← position (c .before), ne-eqb _ _ (c .if1 .left))
+
+pub row-spec : {M : Type 1} → statement M
+row-spec =
+    tie.close
+    (tie.spec
+    slice-aggregate-line
+    line-requires
+    enum-known-line
+    enum-told
+    returns
+    array-copy-out-unsigned
+    unsigned-requires
+    cast-if1
+    array-copy-out-mask-value
+    mask-value-requires
+    array-copy-out-llr-value
+    llr-value-requires
+    returns-2
+    returns-3)

@@ -1,0 +1,134 @@
+-- `rows` meets its contract.
+use Prim.Native.Nat.{ℕ, _+_, _-_, _≤_, _<_}
+use mathlib.Core.Path.{_≡_, refl, sym, ap, _∙_}
+use native.Mathlib.Omega.{arith}
+use borrow.Author.Needs.{needs}
+use lib.ListN.{length, drop, take, length-set}
+use mir.Syntax.{w16}
+use mir.Val.{toZ, ofZ}
+use mir.Facts.{toZ-ofZ}
+use Rattle.scan.specs.Reading.{found}
+use lib.Seq.{drop-set-lt}
+use Rattle.report_input.specs.Input.{rows}
+use Rattle.report_input.specs.InputLaws.{prefixed, prefixed-empty, rows-turn, rows-stop, rows-end}
+use Rattle.report_input.specs.Answers.{rowRead}
+use Rattle.report_input.proofs.rows.Statement.{statement}
+use Rattle.report_input.proofs.rows.Tie as tie
+use Rattle.report_input.proofs.rows.Reads as reads
+use Rattle.report_input.proofs.rows.Lts as lts
+use Rattle.report_input.proofs.row.Reads as row-reads
+
+abbrev Inv-loop : tie.InvT-loop
+Inv-loop text at n mask₀ llr₀ i₀ next₀ mask llr i next =
+    (i ≤ n)
+    × (length mask ≡ length mask₀)
+    × (length llr ≡ length llr₀)
+    × (drop n mask ≡ drop n mask₀)
+    × (drop n llr ≡ drop n llr₀)
+    × (rows n 0 (drop at text) ≡ prefixed (take i mask) (take i llr) (rows (n - i) i (drop next text)))
+
+abbrev μ-loop : tie.MeasureT-loop
+μ-loop text at n mask₀ llr₀ i₀ next₀ mask llr i next = n - i
+
+loop-holds : tie.Need-loop-holds Inv-loop μ-loop
+loop-holds c =
+    let a = c .before .before .args in
+    let none : rows (a .n - 0) 0 (drop (a .at) (a .text .now)) ≡ rows (a .n) 0 (drop (a .at) (a .text .now)) =
+    ap (λ (k : ℕ). rows k 0 (drop (a .at) (a .text .now))) (omega arith) in
+    (omega arith, refl, refl, refl, refl, sym (prefixed-empty (rows (a .n - 0) 0 (drop (a .at) (a .text .now))) ∙ none))
+
+row-requires : tie.Need-row-requires Inv-loop μ-loop
+row-requires c κs = search needs
+
+enum-known-position : tie.Need-enum-known-position Inv-loop μ-loop
+enum-known-position c = search needs
+
+enum-told : tie.Need-enum-told Inv-loop μ-loop
+enum-told c = search needs
+
+same-length : tie.Need-same-length Inv-loop μ-loop
+same-length c = c .before .before .before .before .loop .inv .1
+
+same-length-2 : tie.Need-same-length-2 Inv-loop μ-loop
+same-length-2 c = c .before .before .before .before .loop .inv .2
+
+returns : tie.Need-returns Inv-loop μ-loop
+returns c =
+    let a = c .before .before .before .before .before .before .before .args in
+    let at = c .before .before .before .before .loop in
+    let called = c .before .before .row .ensures ∙ ap (rowRead (a .text .now)) (c .enum-told .given .1) in
+    (at .inv .5 ∙ rows-stop (a .n) (at .i) (take (at .i) (at .mask)) (take (at .i) (at .llr)) (drop (at .next) (a .text .now)) (omega arith) called, (at .inv .3, at .inv .4))
+
+slice-write-mask : tie.Need-slice-write-mask Inv-loop μ-loop
+slice-write-mask c = omega arith
+
+mul-value : tie.Need-mul-value Inv-loop μ-loop
+mul-value c = omega arith
+
+slice-set-from-value : tie.Need-slice-set-from-value Inv-loop μ-loop
+slice-set-from-value c = omega arith
+
+add-i : tie.Need-add-i Inv-loop μ-loop
+add-i c = omega arith
+
+loop-less : tie.Need-loop-less Inv-loop μ-loop
+loop-less c = omega arith
+
+loop-again : tie.Need-loop-again Inv-loop μ-loop
+loop-again c =
+    let a = c .before .before .before .before .before .before .before .before .args in
+    let at = c .before .before .before .before .before .loop in
+    let frozen = c .before .position .given .0 .0 in
+    let llr = c .before .position .given .0 .1 .0 in
+    let called = c .before .before .before .row .ensures ∙ ap (rowRead (a .text .now)) (c .before .position .given .1) in
+    let held : toZ w16 (ofZ w16 llr) ≡ llr = toZ-ofZ {w = w16} (record { sfits = c .known-told .given .1 .0 .1 }) in
+    rw held (
+      omega arith,
+      length-set (at .mask) (at .i) frozen ∙ at .inv .1,
+      length-set (at .llr) (at .i) llr ∙ at .inv .2,
+      drop-set-lt (a .n) (at .mask) (at .i) frozen (omega arith) ∙ at .inv .3,
+      drop-set-lt (a .n) (at .llr) (at .i) llr (omega arith) ∙ at .inv .4,
+      at .inv .5
+          ∙ rows-turn (a .n) (at .i) (at .mask) (at .llr) (drop (at .next) (a .text .now)) _ (record { frozen = frozen; llr = llr })
+          (omega arith) (omega arith) (omega arith) called,
+    )
+
+same-length-3 : tie.Need-same-length-3 Inv-loop μ-loop
+same-length-3 c = c .before .loop .inv .1
+
+same-length-4 : tie.Need-same-length-4 Inv-loop μ-loop
+same-length-4 c = c .before .loop .inv .2
+
+returns-2 : tie.Need-returns-2 Inv-loop μ-loop
+returns-2 c =
+    let a = c .before .before .before .before .args in
+    let at = c .before .loop in
+    let all : at .i ≡ a .n = omega arith in
+    let rest = drop (at .next) (a .text .now) in
+    let last : prefixed (take (at .i) (at .mask)) (take (at .i) (at .llr)) (rows (a .n - at .i) (at .i) rest)
+    ≡ found (record { mask = take (a .n) (at .mask); llr = take (a .n) (at .llr) }) rest =
+    rw all (rows-end (a .n) (take (a .n) (at .mask)) (take (a .n) (at .llr)) rest) in
+    (at .inv .5 ∙ last, (at .inv .3, at .inv .4))
+
+pub rows-spec : {M : Type 1} → statement M
+rows-spec =
+    tie.close
+    (tie.spec
+    Inv-loop
+    μ-loop
+    loop-holds
+    row-requires
+    enum-known-position
+    enum-told
+    same-length
+    same-length-2
+    returns
+    slice-write-mask
+    mul-value
+    slice-set-from-value
+    add-i
+    loop-less
+    loop-again
+    same-length-3
+    same-length-4
+    returns-2)

@@ -1,0 +1,123 @@
+-- `decoded` meets its contract.
+use mathlib.Core.Path.{_≡_, ap, _∙_, subst}
+use mathlib.Core.List.{List}
+use native.Mathlib.Omega.{arith}
+use Prim.Native.Nat.{ℕ}
+use lib.IntN.{pos}
+use lib.ListN.{length-replicate}
+use Rattle.format.specs.Wrote.{Wrote}
+use Rattle.report_text.specs.ReportLaws.{fit-length, DecodedBlock, decoded-block, not-refused, iterations-short, block-room, block-text}
+use borrow.Author.Needs.{needs}
+use Rattle.report_text.proofs.decoded.Statement.{statement}
+use Rattle.report_text.proofs.decoded.Tie as tie
+use Rattle.report_text.proofs.decoded.Reads as reads
+use Rattle.report_text.proofs.decoded.Lts as lts
+use Rattle.decoder.proofs.decode.Reads as decode-reads
+use Rattle.report_text.proofs.outcome.Reads as outcome-reads
+use Rattle.report_text.proofs.refused.Reads as refused-reads
+use Rattle.polar.proofs.power_of_two.Reads as power-of-two-reads
+
+block : (c : tie.After-decode) →
+    let a = c .before .before .before .before .before .before .before .before .args in
+    let d = c .decode .last in
+    DecodedBlock (a .settings) (a .mask .now) (a .llr .now) (a .work .now) (d .1 .1 .1 .0) (d .1 .1 .1 .1 .0) (d .1 .1 .1 .1 .1 .0) (d .1 .1 .1 .1 .1 .1 .0) (c .decode .result)
+block c =
+    let s = c .before .before .before .before .before .before .before .before in
+    decoded-block (s .pre .0) (c .decode .ensures) (length-replicate 1024 (pos 0)) (length-replicate {A = ℕ} 1024 0) (length-replicate 1024 (pos 0)) (length-replicate {A = ℕ} 1024 0) (s .pre .1 .0)
+
+slice-aggregate-decode : tie.Need-slice-aggregate-decode
+slice-aggregate-decode c = search needs
+
+slice-aggregate-decode-2 : tie.Need-slice-aggregate-decode-2
+slice-aggregate-decode-2 c = search needs
+
+slice-aggregate-decode-3 : tie.Need-slice-aggregate-decode-3
+slice-aggregate-decode-3 c = search needs
+
+slice-aggregate-decode-4 : tie.Need-slice-aggregate-decode-4
+slice-aggregate-decode-4 c = search needs
+
+decode-requires : tie.Need-decode-requires
+decode-requires c κs = search needs
+
+enum-known-answer : tie.Need-enum-known-answer
+enum-known-answer c = search needs
+
+refused-requires : tie.Need-refused-requires
+refused-requires c κs = search needs
+
+enum-known-answer-2 : tie.Need-enum-known-answer-2
+enum-known-answer-2 c = search needs
+
+power-of-two-requires : tie.Need-power-of-two-requires
+power-of-two-requires c κs = fit-length (c .before .before .before .before .before .before .before .before .before .before .before .before .before .before .before .before .pre .0)
+
+slice-aggregate-outcome : tie.Need-slice-aggregate-outcome
+slice-aggregate-outcome c = search needs
+
+slice-aggregate-outcome-2 : tie.Need-slice-aggregate-outcome-2
+slice-aggregate-outcome-2 c = search needs
+
+slice-aggregate-outcome-3 : tie.Need-slice-aggregate-outcome-3
+slice-aggregate-outcome-3 c = search needs
+
+slice-aggregate-outcome-4 : tie.Need-slice-aggregate-outcome-4
+slice-aggregate-outcome-4 c = search needs
+
+outcome-requires : tie.Need-outcome-requires
+outcome-requires c κs =
+    let b = block (c .before .before .before .before .before .before .before .before .before .before .before .before .before .before) in
+    let answer = c .before .before .before .before .before .before .before .answer2 .given in
+    let n = c .before .before .before .before .before .power-of-two in
+    let s = c .before .before .before .before .before .before .before .before .before .before .before .before .before .before .before .before .before .before .before .before .before .before in
+    ((iterations-short b (answer .0 .0) (answer .0 .1 .0) (answer .1), s .pre .1 .1), (omega (arith, n .ensures, b .size, c .before .before .before .before .before .before .before .before .before .before .before .before .before .soft2 .given, c .before .before .before .before .before .before .before .before .before .before .before .before .mark2 .given, c .before .before .before .before .before .before .before .before .before .before .before .coded-soft2 .given, c .before .before .before .before .before .before .before .before .before .before .coded-mark2 .given), block-room b (n .result) (n .ensures)))
+
+same-length : tie.Need-same-length
+same-length c = search needs
+
+same-length-2 : tie.Need-same-length-2
+same-length-2 c = search needs
+
+returns : tie.Need-returns
+returns c =
+    absurd (not-refused (block (c .before .before .before .before .before .before .before .before .before .before .before .before)) _ (c .before .before .before .before .before .answer .given .1))
+
+same-length-3 : tie.Need-same-length-3
+same-length-3 c = search needs
+
+same-length-4 : tie.Need-same-length-4
+same-length-4 c = search needs
+
+returns-2 : tie.Need-returns-2
+returns-2 c =
+    let b = block (c .before .before .before .before .before .before .before .before .before .before .before .before .before .before .before .before .before) in
+    let answer = c .before .before .before .before .before .before .before .before .before .before .answer2 .given in
+    let n = c .before .before .before .before .before .before .before .before .power-of-two in
+    let written = c .before .before .outcome in
+    let same = block-text b (n .result) (answer .0 .0) (answer .0 .1 .0) (n .ensures) (answer .1) in
+    (subst (λ (text : List ℕ). Wrote (c .before .before .before .before .before .before .before .before .before .before .before .before .before .before .before .before .before .before .before .before .before .before .before .before .before .args .out .now) 0 text (written .last .0) (written .result)) same (written .ensures .0), written .ensures .1)
+
+pub decoded-spec : {M : Type 1} → statement M
+decoded-spec =
+    tie.close
+    (tie.spec
+    slice-aggregate-decode
+    slice-aggregate-decode-2
+    slice-aggregate-decode-3
+    slice-aggregate-decode-4
+    decode-requires
+    enum-known-answer
+    refused-requires
+    enum-known-answer-2
+    power-of-two-requires
+    slice-aggregate-outcome
+    slice-aggregate-outcome-2
+    slice-aggregate-outcome-3
+    slice-aggregate-outcome-4
+    outcome-requires
+    same-length
+    same-length-2
+    returns
+    same-length-3
+    same-length-4
+    returns-2)
