@@ -9,11 +9,11 @@ use lib.IntN.{ℤ, pos, negsuc, negℤ, natAbs}
 use lib.Signed.{ltZ, nonNeg}
 use mir.Syntax.{w16, w32}
 use mir.Val.{Fits, SFits}
-use Rattle.report_input.specs.Input.{unsigned, llrValue}
+use Rattle.report_input.specs.Input.{outsideRanges, unsigned, llrValue}
 
 -- ---- below zero, and not
 
-pub below-zero : (z : ℤ) → ltZ z (pos 0) ≡ true → 1000000 ≡ unsigned z
+pub below-zero : (z : ℤ) → ltZ z (pos 0) ≡ true → outsideRanges ≡ unsigned z
 below-zero (pos n) e = let h : n < 0 = ltb-true n 0 e in absurd (omega arith)
 below-zero (negsuc n) e = refl
 

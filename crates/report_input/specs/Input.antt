@@ -17,6 +17,23 @@ use Rattle.calls.specs.Texts.{bytes}
 use Rattle.report_input.specs.declared.Input.{Input}
 use Rattle.report_input.specs.declared.Input.the-variants.{Accepted, Refused}
 
+-- ---- constants
+
+-- the most bytes of an accepted text
+abbrev pub longestText : ℕ
+longestText = 32768
+
+-- what a value below zero counts as: it lies outside every range as well
+abbrev pub outsideRanges : ℕ
+outsideRanges = 1000000
+
+-- the positions of the largest block, m = 10, and the elements of its workspace, 2 * (m + 1) * 2 ^ m
+abbrev pub mostPositions : ℕ
+mostPositions = 1024
+
+abbrev pub mostWorkspace : ℕ
+mostWorkspace = 22528
+
 -- ---- the first three lines
 
 abbrev pub settingNames : List ℕ
@@ -26,24 +43,24 @@ abbrev pub positionNames : List ℕ
 positionNames = bytes "position frozen llr\n"
 
 -- a value at its place in a line
-abbrev pub at : List ℤ → ℕ → ℤ
-at zs i = getD zs i (pos 0)
+abbrev pub valueAt : List ℤ → ℕ → ℤ
+valueAt zs i = getD zs i (pos 0)
 
--- a value that can't be below zero; one that is counts as 1,000,000, which lies outside every range as well
+-- a value that can't be below zero
 abbrev pub unsigned : ℤ → ℕ
 unsigned (pos n) = n
-unsigned (negsuc n) = 1000000
+unsigned (negsuc n) = outsideRanges
 
 -- the settings in the order of their names
 abbrev pub settingsOf : List ℤ → Settings
 settingsOf zs =
     record {
-      m = unsigned (at zs 0);
-      ceiling = unsigned (at zs 1);
-      scale = unsigned (at zs 2);
-      limit = unsigned (at zs 3);
-      criterion = unsigned (at zs 4);
-      operand = unsigned (at zs 5);
+      m = unsigned (valueAt zs 0);
+      ceiling = unsigned (valueAt zs 1);
+      scale = unsigned (valueAt zs 2);
+      limit = unsigned (valueAt zs 3);
+      criterion = unsigned (valueAt zs 4);
+      operand = unsigned (valueAt zs 5);
     }
 
 unfoldable pub head : List ℕ → Reading Settings
@@ -62,83 +79,95 @@ maskValue z = min (unsigned z) 255
 abbrev pub llrValue : ℤ → ℤ
 llrValue z = flipped (isNegative z) (pos (min (natAbs z) 32767))
 
-pub record Row : Type 0 where
+pub record PositionInput : Type 0 where
   pub frozen : ℕ
   pub llr : ℤ
 
 -- the line of position p
-unfoldable pub row : ℕ → List ℕ → Reading Row
-row p s =
+unfoldable pub positionLine : ℕ → List ℕ → Reading PositionInput
+positionLine p s =
     bind (line 3 s) (λ zs s.
-    cond (eqb (unsigned (at zs 0)) p) (found (record { frozen = maskValue (at zs 1); llr = llrValue (at zs 2) }) s) malformed)
+    cond (eqb (unsigned (valueAt zs 0)) p)
+    (found (record { frozen = maskValue (valueAt zs 1); llr = llrValue (valueAt zs 2) }) s)
+    malformed)
 
 pub record Block : Type 0 where
   pub mask : List ℕ
   pub llr : List ℤ
 
-abbrev pub above : Row → Block → Block
-above r b = record { mask = r .frozen ∷ b .mask; llr = r .llr ∷ b .llr }
+abbrev pub blockOf : List ℕ → List ℤ → Block
+blockOf mask llr = record { mask = mask; llr = llr }
+
+abbrev pub above : PositionInput → Block → Block
+above r b = blockOf (r .frozen ∷ b .mask) (r .llr ∷ b .llr)
 
 -- the lines of n positions from p on
-unfoldable pub rows : ℕ → ℕ → List ℕ → Reading Block
-rows zero p s = found (record { mask = []; llr = [] }) s
-rows (suc n) p s =
-    bind (row p s) (λ r s.
-    bind (rows n (suc p) s) (λ b s. found (above r b) s))
+unfoldable pub positionLines : ℕ → ℕ → List ℕ → Reading Block
+positionLines zero p s = found (blockOf [] []) s
+positionLines (suc n) p s =
+    bind (positionLine p s) (λ r s.
+    bind (positionLines n (suc p) s) (λ b s. found (above r b) s))
 
 -- ---- the meaning: settings, mask and LLRs, or the number of a refusal
 
 pub data Meaning : Type 0 where
   refused : ℕ → Meaning
-  block : Settings → List ℕ → List ℤ → Meaning
+  block : Settings → Block → Meaning
 
 -- room for a block of any length, so that 7 can't be
 abbrev pub largest : Room
-largest = record { soft = 1024; mark = 1024; «coded_soft» = 1024; «coded_mark» = 1024; work = 22528 }
+largest =
+    record {
+      soft = mostPositions;
+      mark = mostPositions;
+      «coded_soft» = mostPositions;
+      «coded_mark» = mostPositions;
+      work = mostWorkspace;
+    }
 
-abbrev pub byNumber : ℕ → Settings → Block → Meaning
-byNumber zero s b = block s (b .mask) (b .llr)
-byNumber (suc number) s b = refused (suc number)
+abbrev pub meaningBy : ℕ → Settings → Block → Meaning
+meaningBy zero s b = block s b
+meaningBy (suc number) s b = refused (suc number)
 
 -- the rest is tested for 14 (nothing follows the last line), then come the decoder's numbers
 abbrev pub tested : Settings → Reading Block → Meaning
-tested s (found b []) = byNumber (decodeNumber s (b .mask) (b .llr) largest) s b
+tested s (found b []) = meaningBy (decodeNumber s (b .mask) (b .llr) largest) s b
 tested s (found b (x ∷ behind)) = refused 14
 tested s malformed = refused 14
 
 -- the first three lines are tested for 14, then m for 1
 abbrev pub sized : Reading Settings → Meaning
-sized (found s behind) = cond (between 1 10 (s .m)) (tested s (rows (2 ^ s .m) 0 behind)) (refused 1)
+sized (found s behind) = cond (between 1 10 (s .m)) (tested s (positionLines (2 ^ s .m) 0 behind)) (refused 1)
 sized malformed = refused 14
 
--- more than 32,768 bytes is 14 before anything else
+-- a text that is too long is 14 before anything else
 unfoldable pub meaning : List ℕ → Meaning
-meaning t = cond (leb (length t) 32768) (sized (head t)) (refused 14)
+meaning t = cond (leb (length t) longestText) (sized (head t)) (refused 14)
 
 -- ---- the promise of `read`: its answer, and the lent slices afterwards, by the meaning of the text
 
-pub data Verdict : Type 0 where
-  accepted : Settings → Verdict
-  rejected : ℕ → Verdict
+pub data ReadAnswer : Type 0 where
+  accepted : Settings → ReadAnswer
+  rejected : ℕ → ReadAnswer
 
-abbrev pub verdict : Meaning → Verdict
-verdict (refused number) = rejected number
-verdict (block s mask llr) = accepted s
+abbrev pub readAnswer : Meaning → ReadAnswer
+readAnswer (refused number) = rejected number
+readAnswer (block s b) = accepted s
 
-abbrev pub verdictOf : Input → Verdict
-verdictOf (Accepted s) = accepted s
-verdictOf (Refused r) = rejected (refusalNumber r)
+abbrev pub answerOf : Input → ReadAnswer
+answerOf (Accepted s) = accepted s
+answerOf (Refused r) = rejected (refusalNumber r)
 
 -- the values of a block from the first element on, the old contents behind them
-abbrev pub maskAfter : Meaning → List ℕ → List ℕ
-maskAfter (refused number) old = old
-maskAfter (block s mask llr) old = mask ++ drop (length mask) old
+module _ {A : Type 0} where
+  abbrev pub writtenOver : List A → List A → List A
+  writtenOver values old = values ++ drop (length values) old
 
-abbrev pub llrAfter : Meaning → List ℤ → List ℤ
-llrAfter (refused number) old = old
-llrAfter (block s mask llr) old = llr ++ drop (length llr) old
+abbrev pub slicesAfter : Meaning → Block → Block
+slicesAfter (refused number) old = old
+slicesAfter (block s b) old = blockOf (writtenOver (b .mask) (old .mask)) (writtenOver (b .llr) (old .llr))
 
-pub record InputRead (means : Meaning) (mask : List ℕ) (llr : List ℤ) (mask′ : List ℕ) (llr′ : List ℤ) (r : Input) : Type 0 where
-  pub answer : verdictOf r ≡ verdict means
-  pub mask-is : mask′ ≡ maskAfter means mask
-  pub llr-is : llr′ ≡ llrAfter means llr
+-- `before` and `after` are the contents of the lent slices
+pub record InputRead (means : Meaning) (before after : Block) (r : Input) : Type 0 where
+  pub answer : answerOf r ≡ readAnswer means
+  pub after-is : after ≡ slicesAfter means before

@@ -17,24 +17,50 @@ use Rattle.calls.specs.NumberLaws.{refused-first}
 use Rattle.settings.specs.declared.Settings.{Settings}
 use Rattle.settings.specs.Settings.{decodeNumber}
 use Rattle.scan.specs.Reading.{Reading, found, malformed, bind}
-use Rattle.report_input.specs.Input.{at, unsigned, maskValue, llrValue, settingNames, positionNames, settingsOf, Row, Block, above, row, rows, head, Meaning, refused, block, largest, byNumber, tested, sized, meaning, InputRead}
+use Rattle.report_input.specs.Input.{
+  longestText,
+  valueAt,
+  unsigned,
+  maskValue,
+  llrValue,
+  settingNames,
+  positionNames,
+  settingsOf,
+  PositionInput,
+  Block,
+  blockOf,
+  above,
+  positionLine,
+  positionLines,
+  head,
+  Meaning,
+  refused,
+  block,
+  largest,
+  meaningBy,
+  tested,
+  sized,
+  meaning,
+  writtenOver,
+  InputRead,
+}
 use Rattle.scan.specs.Lines.{line, literal}
 use Rattle.scan.specs.declared.Next.{Next}
 use Rattle.scan.specs.declared.Next.the-variants.{At, Malformed}
 use Rattle.scan.specs.Answers.{readTo}
-use Rattle.report_input.specs.Answers.{blockOf, numberIn}
+use Rattle.report_input.specs.Private.{firstOf, numberIn}
 use Rattle.report_input.specs.declared.Input.the-variants.{Accepted, Refused}
 
 -- ---- one line
 
-pub row-found : (p : ℕ) (zs : List ℤ) (s t : List ℕ) → line 3 s ≡ found (take 3 zs) t
-    → row p s ≡ cond (eqb (unsigned (at zs 0)) p) (found (record { frozen = maskValue (at zs 1); llr = llrValue (at zs 2) }) t) malformed
-unfolding row
-row-found p zs s t e = rw (e, getD-take 3 zs 0 (pos 0) (lit< tt), getD-take 3 zs 1 (pos 0) (lit< tt), getD-take 3 zs 2 (pos 0) (lit< tt))
+pub position-line-found : (p : ℕ) (zs : List ℤ) (s t : List ℕ) → line 3 s ≡ found (take 3 zs) t
+    → positionLine p s ≡ cond (eqb (unsigned (valueAt zs 0)) p) (found (record { frozen = maskValue (valueAt zs 1); llr = llrValue (valueAt zs 2) }) t) malformed
+unfolding positionLine
+position-line-found p zs s t e = rw (e, getD-take 3 zs 0 (pos 0) (lit< tt), getD-take 3 zs 1 (pos 0) (lit< tt), getD-take 3 zs 2 (pos 0) (lit< tt))
 
-pub row-malformed : (p : ℕ) (s : List ℕ) → line 3 s ≡ malformed → row p s ≡ malformed
-unfolding row
-row-malformed p s e = rw e
+pub position-line-malformed : (p : ℕ) (s : List ℕ) → line 3 s ≡ malformed → positionLine p s ≡ malformed
+unfolding positionLine
+position-line-malformed p s e = rw e
 
 pub head-found : (t second third behind : List ℕ) (zs : List ℤ) → literal settingNames t ≡ found tt second → line 6 second ≡ found (take 6 zs) third
     → literal positionNames third ≡ found tt behind → head t ≡ found (settingsOf zs) behind
@@ -69,7 +95,7 @@ head-third t second third zs one two three = rw (one, two, three)
 
 -- values read before, in front of a block still to be read
 abbrev pub behind : List ℕ → List ℤ → Block → Block
-behind mask llr b = record { mask = mask ++ b .mask; llr = llr ++ b .llr }
+behind mask llr b = blockOf (mask ++ b .mask) (llr ++ b .llr)
 
 abbrev pub prefixed : List ℕ → List ℤ → Reading Block → Reading Block
 prefixed mask llr R = bind R (λ b s. found (behind mask llr b) s)
@@ -78,30 +104,30 @@ pub prefixed-empty : (R : Reading Block) → prefixed [] [] R ≡ R
 prefixed-empty malformed = refl
 prefixed-empty (found b s) = refl
 
-prefixed-row : (mask : List ℕ) (llr : List ℤ) (r : Row) (R : Reading Block)
+prefixed-position : (mask : List ℕ) (llr : List ℤ) (r : PositionInput) (R : Reading Block)
     → prefixed mask llr (bind R (λ b s. found (above r b) s)) ≡ prefixed (mask ++ (r .frozen ∷ [])) (llr ++ (r .llr ∷ [])) R
-prefixed-row mask llr r malformed = refl
-prefixed-row mask llr r (found b s) = rw (append-assoc mask (r .frozen ∷ []) (b .mask), append-assoc llr (r .llr ∷ []) (b .llr))
+prefixed-position mask llr r malformed = refl
+prefixed-position mask llr r (found b s) = rw (append-assoc mask (r .frozen ∷ []) (b .mask), append-assoc llr (r .llr ∷ []) (b .llr))
 
 -- where i of n lines are read: one more
-pub rows-turn : (n i : ℕ) (mask : List ℕ) (llr : List ℤ) (s t : List ℕ) (r : Row) → i < n → n ≤ length mask → n ≤ length llr → row i s ≡ found r t
-    → prefixed (take i mask) (take i llr) (rows (n - i) i s)
-    ≡ prefixed (take (i + 1) (set mask i (r .frozen))) (take (i + 1) (set llr i (r .llr))) (rows (n - (i + 1)) (i + 1) t)
-unfolding rows
-rows-turn n i mask llr s t r h mask-long llr-long e =
+pub position-lines-next : (n i : ℕ) (mask : List ℕ) (llr : List ℤ) (s t : List ℕ) (r : PositionInput) → i < n → n ≤ length mask → n ≤ length llr → positionLine i s ≡ found r t
+    → prefixed (take i mask) (take i llr) (positionLines (n - i) i s)
+    ≡ prefixed (take (i + 1) (set mask i (r .frozen))) (take (i + 1) (set llr i (r .llr))) (positionLines (n - (i + 1)) (i + 1) t)
+unfolding positionLines
+position-lines-next n i mask llr s t r h mask-long llr-long e =
     let left : n - i ≡ suc (n - suc i) = omega arith in
     rw (left, e, add-one i, take-suc-set mask i (r .frozen) (omega arith), take-suc-set llr i (r .llr) (omega arith))
-    (prefixed-row (take i mask) (take i llr) r (rows (n - suc i) (suc i) t))
+    (prefixed-position (take i mask) (take i llr) r (positionLines (n - suc i) (suc i) t))
 
 -- no line of the next position
-pub rows-stop : (n i : ℕ) (mask : List ℕ) (llr : List ℤ) (s : List ℕ) → i < n → row i s ≡ malformed → prefixed mask llr (rows (n - i) i s) ≡ malformed
-unfolding rows
-rows-stop n i mask llr s h e = let left : n - i ≡ suc (n - suc i) = omega arith in rw (left, e)
+pub position-lines-stop : (n i : ℕ) (mask : List ℕ) (llr : List ℤ) (s : List ℕ) → i < n → positionLine i s ≡ malformed → prefixed mask llr (positionLines (n - i) i s) ≡ malformed
+unfolding positionLines
+position-lines-stop n i mask llr s h e = let left : n - i ≡ suc (n - suc i) = omega arith in rw (left, e)
 
 -- no line left
-pub rows-end : (n : ℕ) (mask : List ℕ) (llr : List ℤ) (s : List ℕ) → prefixed mask llr (rows (n - n) n s) ≡ found (record { mask = mask; llr = llr }) s
-unfolding rows
-rows-end n mask llr s = let left : n - n ≡ 0 = omega arith in rw (left, append-nil mask, append-nil llr)
+pub position-lines-end : (n : ℕ) (mask : List ℕ) (llr : List ℤ) (s : List ℕ) → prefixed mask llr (positionLines (n - n) n s) ≡ found (blockOf mask llr) s
+unfolding positionLines
+position-lines-end n mask llr s = let left : n - n ≡ 0 = omega arith in rw (left, append-nil mask, append-nil llr)
 
 -- ---- n lines give n mask values and n LLRs
 
@@ -114,52 +140,55 @@ pub record Long (n : ℕ) (b : Block) : Type 0 where
   pub mask-long : length (b .mask) ≡ n
   pub llr-long : length (b .llr) ≡ n
 
-pub rows-long : (n p : ℕ) (s : List ℕ) → Each (Long n) (rows n p s)
-unfolding rows
-rows-long zero p s = record { mask-long = refl; llr-long = refl }
-rows-long (suc n) p s = first (row p s) (λ s. rows-long n (suc p) s)
+pub position-lines-long : (n p : ℕ) (s : List ℕ) → Each (Long n) (positionLines n p s)
+unfolding positionLines
+position-lines-long zero p s = record { mask-long = refl; llr-long = refl }
+position-lines-long (suc n) p s = first (positionLine p s) (λ s. position-lines-long n (suc p) s)
   where
-    more : (r : Row) (R : Reading Block) → Each (Long n) R → Each (Long (suc n)) (bind R (λ b s. found (above r b) s))
+    more : (r : PositionInput) (R : Reading Block) → Each (Long n) R → Each (Long (suc n)) (bind R (λ b s. found (above r b) s))
     more r malformed h = tt
     more r (found b s) h = record { mask-long = ap suc (h .mask-long); llr-long = ap suc (h .llr-long) }
 
-    first : (R : Reading Row) → ((s : List ℕ) → Each (Long n) (rows n (suc p) s))
-        → Each (Long (suc n)) (bind R (λ r s. bind (rows n (suc p) s) (λ b s. found (above r b) s)))
+    first : (R : Reading PositionInput) → ((s : List ℕ) → Each (Long n) (positionLines n (suc p) s))
+        → Each (Long (suc n)) (bind R (λ r s. bind (positionLines n (suc p) s) (λ b s. found (above r b) s)))
     first malformed h = tt
-    first (found r s) h = more r (rows n (suc p) s) (h s)
+    first (found r s) h = more r (positionLines n (suc p) s) (h s)
 
 -- ---- a block that is accepted
 
-pub record Fit (s : Settings) (mask : List ℕ) (llr : List ℤ) : Type 0 where
-  pub number : decodeNumber s mask llr largest ≡ 0
-  pub mask-long : length mask ≡ 2 ^ s .m
-  pub llr-long : length llr ≡ 2 ^ s .m
+-- its number where there is room for every block
+abbrev blockNumber : Settings → Block → ℕ
+blockNumber s b = decodeNumber s (b .mask) (b .llr) largest
+
+pub record Fit (s : Settings) (b : Block) : Type 0 where
+  pub number : decodeNumber s (b .mask) (b .llr) largest ≡ 0
+  pub long : Long (2 ^ s .m) b
 
 abbrev pub Means : Meaning → Type 0
 Means (refused number) = Unit
-Means (block s mask llr) = Fit s mask llr
+Means (block s b) = Fit s b
 
-by-number : (n : ℕ) (s : Settings) (b : Block) → decodeNumber s (b .mask) (b .llr) largest ≡ n → Long (2 ^ s .m) b → Means (byNumber n s b)
-by-number zero s b e long = record { number = e; mask-long = long .mask-long; llr-long = long .llr-long }
-by-number (suc n) s b e long = tt
+meaning-by : (n : ℕ) (s : Settings) (b : Block) → blockNumber s b ≡ n → Long (2 ^ s .m) b → Means (meaningBy n s b)
+meaning-by zero s b e long = record { number = e; long = long }
+meaning-by (suc n) s b e long = tt
 
 tested-fit : (s : Settings) (R : Reading Block) → Each (Long (2 ^ s .m)) R → Means (tested s R)
 tested-fit s malformed long = tt
-tested-fit s (found b []) long = by-number (decodeNumber s (b .mask) (b .llr) largest) s b refl long
+tested-fit s (found b []) long = meaning-by (blockNumber s b) s b refl long
 tested-fit s (found b (x ∷ more)) long = tt
 
 sized-fit : (R : Reading Settings) → Means (sized R)
 sized-fit malformed = tt
 sized-fit (found s t) = either (between 1 10 (s .m))
   where
-    either : (ok : Bool) → Means (cond ok (tested s (rows (2 ^ s .m) 0 t)) (refused 1))
-    either true = tested-fit s (rows (2 ^ s .m) 0 t) (rows-long (2 ^ s .m) 0 t)
+    either : (ok : Bool) → Means (cond ok (tested s (positionLines (2 ^ s .m) 0 t)) (refused 1))
+    either true = tested-fit s (positionLines (2 ^ s .m) 0 t) (position-lines-long (2 ^ s .m) 0 t)
     either false = tt
 
 -- the meaning of a text is a refusal, or a block that the decoder accepts
 pub meaning-fit : (t : List ℕ) → Means (meaning t)
 unfolding meaning
-meaning-fit t = either (leb (length t) 32768)
+meaning-fit t = either (leb (length t) longestText)
   where
     either : (ok : Bool) → Means (cond ok (sized (head t)) (refused 14))
     either true = sized-fit (head t)
@@ -167,7 +196,7 @@ meaning-fit t = either (leb (length t) 32768)
 
 -- ---- the number of the lines of the positions
 
-pub number-in : (n : ℕ) (s : Settings) (b : Block) → numberIn (byNumber n s b) ≡ n
+pub number-in : (n : ℕ) (s : Settings) (b : Block) → numberIn (meaningBy n s b) ≡ n
 number-in zero s b = refl
 number-in (suc n) s b = refl
 
@@ -175,33 +204,35 @@ pub lines-malformed : (s : Settings) (R : Reading Block) → R ≡ malformed →
 lines-malformed s R e = rw e
 
 -- something follows the last line
-pub lines-followed : (s : Settings) (R : Reading Block) (b : Block) (end : ℕ) (t : List ℕ) → R ≡ found b (drop end t) → end < length t
+pub lines-followed : (s : Settings) (R : Reading Block) (b : Block) (end : ℕ) (t : List ℕ)
+    → R ≡ found b (drop end t) → end < length t
     → 14 ≡ numberIn (tested s R)
 lines-followed s R b end t e h = rw (e, drop-cons t end 0 h)
 
-pub lines-number : (s : Settings) (R : Reading Block) (b : Block) (end : ℕ) (t : List ℕ) → R ≡ found b (drop end t) → length t ≤ end
-    → decodeNumber s (b .mask) (b .llr) largest ≡ numberIn (tested s R)
-lines-number s R b end t e h = rw (e, drop-of-length-le t h) (sym (number-in (decodeNumber s (b .mask) (b .llr) largest) s b))
+pub lines-number : (s : Settings) (R : Reading Block) (b : Block) (end : ℕ) (t : List ℕ)
+    → R ≡ found b (drop end t) → length t ≤ end
+    → blockNumber s b ≡ numberIn (tested s R)
+lines-number s R b end t e h = rw (e, drop-of-length-le t h) (sym (number-in (blockNumber s b) s b))
 
 number-positive : (r : Refusal) → 0 ≡ refusalNumber r → ⊥
-number-positive r e = let one : 1 ≡ refusalNumber r = ap (λ (n : ℕ). andThen n 1) e ∙ refused-first r 1 in omega arith
+number-positive r e =
+    let one : 1 ≡ refusalNumber r = ap (λ (n : ℕ). andThen n 1) e ∙ refused-first r 1 in omega arith
 
 pub refused-block : (r : Refusal) (means : Meaning) → refusalNumber r ≡ numberIn means → means ≡ refused (refusalNumber r)
 refused-block r (refused number) e = ap refused (sym e)
-refused-block r (block s mask llr) e = absurd (number-positive r (sym e))
+refused-block r (block s b) e = absurd (number-positive r (sym e))
 
 -- where no number applies, the lines were read to the end of the text
 pub record Whole (s : Settings) (R : Reading Block) : Type 0 where
   pub b : Block
   pub read : R ≡ found b []
-  pub means : tested s R ≡ block s (b .mask) (b .llr)
+  pub means : tested s R ≡ block s b
 
 pub accepted-block : (s : Settings) (R : Reading Block) → 0 ≡ numberIn (tested s R) → Whole s R
 accepted-block s malformed e = absurd (omega arith)
 accepted-block s (found b (x ∷ more)) e = absurd (omega arith)
 accepted-block s (found b []) e =
-    let zero-number : decodeNumber s (b .mask) (b .llr) largest ≡ 0 =
-    sym (number-in (decodeNumber s (b .mask) (b .llr) largest) s b) ∙ sym e in
+    let zero-number : blockNumber s b ≡ 0 = sym (number-in (blockNumber s b) s b) ∙ sym e in
     record { b = b; read = refl; means = rw zero-number }
 
 -- ---- an answer that found something found what the definition finds
@@ -221,41 +252,44 @@ module _ {A : Type 0} where
 
 -- ---- what `read` answers and leaves
 
-pub read-refused : {mask : List ℕ} {llr : List ℤ} {means : Meaning} (r : Refusal) → means ≡ refused (refusalNumber r)
-    → InputRead means mask llr mask llr (Refused r)
-read-refused r e = rw e (record { answer = refl; mask-is = refl; llr-is = refl })
+pub read-refused : {old : Block} {means : Meaning} (r : Refusal) → means ≡ refused (refusalNumber r)
+    → InputRead means old old (Refused r)
+read-refused r e = rw e (record { answer = refl; after-is = refl })
 
 pub sized-refused : (s : Settings) (t : List ℕ) → between 1 10 (s .m) ≡ false → sized (found s t) ≡ refused 1
 sized-refused s t e = rw e
 
-pub sized-tested : (s : Settings) (t : List ℕ) → between 1 10 (s .m) ≡ true → sized (found s t) ≡ tested s (rows (2 ^ s .m) 0 t)
+pub sized-tested : (s : Settings) (t : List ℕ) → between 1 10 (s .m) ≡ true
+    → sized (found s t) ≡ tested s (positionLines (2 ^ s .m) 0 t)
 sized-tested s t e = rw e
 
 -- n elements of a slice were replaced
-replaced : {A : Type 0} (n : ℕ) (old new values : List A) → length values ≡ n → take n new ≡ values → drop n new ≡ drop n old
-    → new ≡ values ++ drop (length values) old
+replaced : {A : Type 0} (n : ℕ) (old new values : List A) → length values ≡ n → take n new ≡ values
+    → drop n new ≡ drop n old → new ≡ writtenOver values old
 replaced n old new values long first behind =
     sym (take-append-drop n new) ∙ ap₂ _++_ first behind ∙ ap (λ (k : ℕ). values ++ drop k old) (sym long)
 
-pub read-accepted : (s : Settings) (t u : List ℕ) (n : ℕ) (r : Next) {mask mask′ : List ℕ} {llr llr′ : List ℤ}
-    → 0 ≡ numberIn (tested s (rows (2 ^ s .m) 0 u)) → n ≡ 2 ^ s .m
-    → rows n 0 u ≡ readTo t (blockOf n mask′ llr′) r → drop n mask′ ≡ drop n mask → drop n llr′ ≡ drop n llr
-    → InputRead (tested s (rows (2 ^ s .m) 0 u)) mask llr mask′ llr′ (Accepted s)
-read-accepted s t u n r {mask} {mask′} {llr} {llr′} none size seen mask-behind llr-behind =
-    let whole = accepted-block s (rows (2 ^ s .m) 0 u) none in
-    let same : rows n 0 u ≡ rows (2 ^ s .m) 0 u = ap (λ (k : ℕ). rows k 0 u) size in
-    let long = subst (Each (Long n)) (same ∙ whole .read) (rows-long n 0 u) in
-    let b : blockOf n mask′ llr′ ≡ whole .b = read-found t (blockOf n mask′ llr′) (whole .b) [] r (sym seen ∙ same ∙ whole .read) in
-    rw (whole .means) (record {
-      answer = refl;
-      mask-is = replaced n mask mask′ (whole .b .mask) (long .mask-long) (ap (λ (x : Block). x .mask) b) mask-behind;
-      llr-is = replaced n llr llr′ (whole .b .llr) (long .llr-long) (ap (λ (x : Block). x .llr) b) llr-behind;
-    })
+pub read-accepted : (s : Settings) (t u : List ℕ) (n : ℕ) (r : Next) {old new : Block}
+    → 0 ≡ numberIn (tested s (positionLines (2 ^ s .m) 0 u)) → n ≡ 2 ^ s .m
+    → positionLines n 0 u ≡ readTo t (firstOf n (new .mask) (new .llr)) r
+    → drop n (new .mask) ≡ drop n (old .mask) → drop n (new .llr) ≡ drop n (old .llr)
+    → InputRead (tested s (positionLines (2 ^ s .m) 0 u)) old new (Accepted s)
+read-accepted s t u n r {old} {new} none size seen mask-behind llr-behind =
+    let whole = accepted-block s (positionLines (2 ^ s .m) 0 u) none in
+    let same : positionLines n 0 u ≡ positionLines (2 ^ s .m) 0 u = ap (λ (k : ℕ). positionLines k 0 u) size in
+    let long = subst (Each (Long n)) (same ∙ whole .read) (position-lines-long n 0 u) in
+    let first = firstOf n (new .mask) (new .llr) in
+    let b : first ≡ whole .b = read-found t first (whole .b) [] r (sym seen ∙ same ∙ whole .read) in
+    let mask-is = replaced n (old .mask) (new .mask) (whole .b .mask) (long .mask-long) (ap (λ (x : Block). x .mask) b)
+    mask-behind in
+    let llr-is = replaced n (old .llr) (new .llr) (whole .b .llr) (long .llr-long) (ap (λ (x : Block). x .llr) b)
+    llr-behind in
+    rw (whole .means) (record { answer = refl; after-is = ap₂ blockOf mask-is llr-is })
 
-pub meaning-long : (t : List ℕ) → 32768 < length t → meaning t ≡ refused 14
+pub meaning-long : (t : List ℕ) → longestText < length t → meaning t ≡ refused 14
 unfolding meaning
-meaning-long t h = rw (lt-leb (length t) 32768 h)
+meaning-long t h = rw (lt-leb (length t) longestText h)
 
-pub meaning-sized : (t : List ℕ) → length t ≤ 32768 → meaning t ≡ sized (head t)
+pub meaning-sized : (t : List ℕ) → length t ≤ longestText → meaning t ≡ sized (head t)
 unfolding meaning
-meaning-sized t h = rw (le-leb (length t) 32768 h)
+meaning-sized t h = rw (le-leb (length t) longestText h)

@@ -1,5 +1,5 @@
 pub mod Input
-pub mod Answers
+pub mod Private
 pub mod InputLaws
 pub mod ReadLaws
 pub mod WholeNumbers

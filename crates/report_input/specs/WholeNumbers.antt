@@ -17,7 +17,17 @@ use Rattle.calls.specs.Signs.{isNegative}
 use Rattle.calls.specs.SignLaws.{size-flipped}
 use Rattle.polar.specs.Code.{areBits, informationCount, byKind}
 use Rattle.settings.specs.Settings.{operandFits, settingsNumber, slicesFit, withinCeiling, decodeNumber}
-use Rattle.report_input.specs.Input.{at, unsigned, maskValue, llrValue, settingsOf, largest}
+use Rattle.report_input.specs.Input.{
+  outsideRanges,
+  mostPositions,
+  mostWorkspace,
+  valueAt,
+  unsigned,
+  maskValue,
+  llrValue,
+  settingsOf,
+  largest,
+}
 
 -- from low to high; a number below zero is in no range
 abbrev pub inRange : ℕ → ℕ → ℤ → Bool
@@ -43,15 +53,15 @@ operandInRange C (negsuc n) operand = false
 -- m, C, k, T, criterion and operand in the first line, then N mask values and N LLRs
 abbrev pub wholeNumber : List ℤ → List ℤ → List ℤ → ℕ
 wholeNumber zs mask llr =
-    check (inRange 1 10 (at zs 0)) 1
-    (check (inRange 1 2047 (at zs 1)) 2
-    (check (inRange 1 16 (at zs 2)) 3
-    (check (inRange 1 200 (at zs 3)) 4
-    (check (inRange 0 3 (at zs 4)) 5
-    (check (operandInRange (natAbs (at zs 1)) (at zs 4) (at zs 5)) 6
-    (check (every (2 ^ natAbs (at zs 0)) (inRange 0 1) mask) 8
-    (check (some (2 ^ natAbs (at zs 0)) (inRange 0 0) mask) 9
-    (check (every (2 ^ natAbs (at zs 0)) (λ l. leb (natAbs l) (natAbs (at zs 1))) llr) 10 0))))))))
+    check (inRange 1 10 (valueAt zs 0)) 1
+    (check (inRange 1 2047 (valueAt zs 1)) 2
+    (check (inRange 1 16 (valueAt zs 2)) 3
+    (check (inRange 1 200 (valueAt zs 3)) 4
+    (check (inRange 0 3 (valueAt zs 4)) 5
+    (check (operandInRange (natAbs (valueAt zs 1)) (valueAt zs 4) (valueAt zs 5)) 6
+    (check (every (2 ^ natAbs (valueAt zs 0)) (inRange 0 1) mask) 8
+    (check (some (2 ^ natAbs (valueAt zs 0)) (inRange 0 0) mask) 9
+    (check (every (2 ^ natAbs (valueAt zs 0)) (λ l. leb (natAbs l) (natAbs (valueAt zs 1))) llr) 10 0))))))))
 
 -- ---- one value
 
@@ -59,13 +69,13 @@ and-false : (b : Bool) → b && false ≡ false
 and-false true = refl
 and-false false = refl
 
-range-whole : (low high : ℕ) (z : ℤ) → high < 1000000 → between low high (unsigned z) ≡ inRange low high z
+range-whole : (low high : ℕ) (z : ℤ) → high < outsideRanges → between low high (unsigned z) ≡ inRange low high z
 range-whole low high (pos n) h = refl
-range-whole low high (negsuc n) h = rw (lt-leb 1000000 high h) (and-false (leb low 1000000))
+range-whole low high (negsuc n) h = rw (lt-leb outsideRanges high h) (and-false (leb low outsideRanges))
 
-up-to-whole : (high : ℕ) (z : ℤ) → high < 1000000 → leb (unsigned z) high ≡ inRange 0 high z
+up-to-whole : (high : ℕ) (z : ℤ) → high < outsideRanges → leb (unsigned z) high ≡ inRange 0 high z
 up-to-whole high (pos n) h = rw (leb·zero n)
-up-to-whole high (negsuc n) h = lt-leb 1000000 high h
+up-to-whole high (negsuc n) h = lt-leb outsideRanges high h
 
 zero-whole : (z : ℤ) → eqb (unsigned z) 0 ≡ inRange 0 0 z
 zero-whole (pos zero) = refl
@@ -77,7 +87,7 @@ in-range : (low high : ℕ) (z : ℤ) → inRange low high z ≡ true → unsign
 in-range low high (pos n) e = refl
 in-range low high (negsuc n) e = absurd (true≢false (sym e))
 
-operand-whole : (C : ℕ) (criterion operand : ℤ) → C < 1000000 → inRange 0 3 criterion ≡ true
+operand-whole : (C : ℕ) (criterion operand : ℤ) → C < outsideRanges → inRange 0 3 criterion ≡ true
     → operandFits C (unsigned criterion) (unsigned operand) ≡ operandInRange C criterion operand
 operand-whole C (pos zero) operand h e = zero-whole operand
 operand-whole C (pos (suc zero)) operand h e = zero-whole operand
@@ -147,7 +157,12 @@ room-fits m n k h e f =
     let small : 2 ^ m ≤ 2 ^ 10 = pow-mono h in
     let columns : 2 * (m + 1) ≤ 22 = omega arith in
     let work : 2 * (m + 1) * 2 ^ m ≤ 22 * 2 ^ 10 = mul-le-mul columns small in
-    rw (le-leb (2 ^ m) n (omega arith), le-leb (2 ^ m) k (omega arith), le-leb (2 ^ m) 1024 small, le-leb (2 * (m + 1) * 2 ^ m) 22528 work)
+    rw (
+      le-leb (2 ^ m) n (omega arith),
+      le-leb (2 ^ m) k (omega arith),
+      le-leb (2 ^ m) mostPositions small,
+      le-leb (2 * (m + 1) * 2 ^ m) mostWorkspace work,
+    )
 
 next-test : (t t′ : Bool) (number x y z : ℕ) → t ≡ t′ → (t′ ≡ true → andThen x y ≡ z)
     → andThen (check t (suc number) x) y ≡ check t′ (suc number) z
@@ -157,30 +172,30 @@ next-test false true number x y z e same = absurd (true≢false (sym e))
 next-test false false number x y z e same = refl
 
 -- the number of a block read from a text is that of the whole numbers in the text
-pub compared-whole : (zs mask llr : List ℤ) → length mask ≡ 2 ^ natAbs (at zs 0) → length llr ≡ 2 ^ natAbs (at zs 0)
+pub compared-whole : (zs mask llr : List ℤ) → length mask ≡ 2 ^ natAbs (valueAt zs 0) → length llr ≡ 2 ^ natAbs (valueAt zs 0)
     → decodeNumber (settingsOf zs) (map maskValue mask) (map llrValue llr) largest ≡ wholeNumber zs mask llr
 compared-whole zs mask llr mask-long llr-long =
-    next-test _ _ 0 _ _ _ (range-whole 1 10 (at zs 0) (lit< tt)) (λ one.
-    next-test _ _ 1 _ _ _ (range-whole 1 2047 (at zs 1) (lit< tt)) (λ two.
-    next-test _ _ 2 _ _ _ (range-whole 1 16 (at zs 2) (lit< tt)) (λ three.
-    next-test _ _ 3 _ _ _ (range-whole 1 200 (at zs 3) (lit< tt)) (λ four.
-    next-test _ _ 4 _ _ _ (up-to-whole 3 (at zs 4) (lit< tt)) (λ five.
-    let m : unsigned (at zs 0) ≡ natAbs (at zs 0) = in-range 1 10 (at zs 0) one in
-    let m-range : (1 ≤ natAbs (at zs 0)) × (natAbs (at zs 0) ≤ 10) =
-    between-passed 1 10 (natAbs (at zs 0)) (rw (← m) (range-whole 1 10 (at zs 0) (lit< tt) ∙ one)) in
-    let C : unsigned (at zs 1) ≡ natAbs (at zs 1) = in-range 1 2047 (at zs 1) two in
-    let C-range : (1 ≤ natAbs (at zs 1)) × (natAbs (at zs 1) ≤ 2047) =
-    between-passed 1 2047 (natAbs (at zs 1)) (rw (← C) (range-whole 1 2047 (at zs 1) (lit< tt) ∙ two)) in
-    let operand : operandFits (unsigned (at zs 1)) (unsigned (at zs 4)) (unsigned (at zs 5)) ≡ operandInRange (natAbs (at zs 1)) (at zs 4) (at zs 5) =
-    rw C (operand-whole (natAbs (at zs 1)) (at zs 4) (at zs 5) (omega arith) five) in
+    next-test _ _ 0 _ _ _ (range-whole 1 10 (valueAt zs 0) (lit< tt)) (λ one.
+    next-test _ _ 1 _ _ _ (range-whole 1 2047 (valueAt zs 1) (lit< tt)) (λ two.
+    next-test _ _ 2 _ _ _ (range-whole 1 16 (valueAt zs 2) (lit< tt)) (λ three.
+    next-test _ _ 3 _ _ _ (range-whole 1 200 (valueAt zs 3) (lit< tt)) (λ four.
+    next-test _ _ 4 _ _ _ (up-to-whole 3 (valueAt zs 4) (lit< tt)) (λ five.
+    let m : unsigned (valueAt zs 0) ≡ natAbs (valueAt zs 0) = in-range 1 10 (valueAt zs 0) one in
+    let m-range : (1 ≤ natAbs (valueAt zs 0)) × (natAbs (valueAt zs 0) ≤ 10) =
+    between-passed 1 10 (natAbs (valueAt zs 0)) (rw (← m) (range-whole 1 10 (valueAt zs 0) (lit< tt) ∙ one)) in
+    let C : unsigned (valueAt zs 1) ≡ natAbs (valueAt zs 1) = in-range 1 2047 (valueAt zs 1) two in
+    let C-range : (1 ≤ natAbs (valueAt zs 1)) × (natAbs (valueAt zs 1) ≤ 2047) =
+    between-passed 1 2047 (natAbs (valueAt zs 1)) (rw (← C) (range-whole 1 2047 (valueAt zs 1) (lit< tt) ∙ two)) in
+    let operand : operandFits (unsigned (valueAt zs 1)) (unsigned (valueAt zs 4)) (unsigned (valueAt zs 5)) ≡ operandInRange (natAbs (valueAt zs 1)) (valueAt zs 4) (valueAt zs 5) =
+    rw C (operand-whole (natAbs (valueAt zs 1)) (valueAt zs 4) (valueAt zs 5) (omega arith) five) in
     next-test _ _ 5 _ _ _ operand (λ six.
     rw (
       m,
       C,
       length-map mask maskValue,
       length-map llr llrValue,
-      room-fits (natAbs (at zs 0)) (length mask) (length llr) (m-range .1) mask-long llr-long,
-      mask-bits (2 ^ natAbs (at zs 0)) mask,
-      mask-some (2 ^ natAbs (at zs 0)) mask,
-      llr-sizes (2 ^ natAbs (at zs 0)) (natAbs (at zs 1)) llr (C-range .1),
+      room-fits (natAbs (valueAt zs 0)) (length mask) (length llr) (m-range .1) mask-long llr-long,
+      mask-bits (2 ^ natAbs (valueAt zs 0)) mask,
+      mask-some (2 ^ natAbs (valueAt zs 0)) mask,
+      llr-sizes (2 ^ natAbs (valueAt zs 0)) (natAbs (valueAt zs 1)) llr (C-range .1),
     )))))))

@@ -1,19 +1,31 @@
 // The report's input: a text of bytes becomes settings, mask and LLRs.
-// It sees `scan`, `settings` and the block length of `polar`. It promises the meaning that document 01 gives the text, for every byte string, and that a
-// refused text writes nothing.
+// It sees `scan`, `settings` and the block length of `polar`. It promises the meaning that document 01 gives the text,
+// for every byte string, and that a refused text writes nothing.
 ghost use mathlib.Core.Path.{_≡_};
 ghost use Prim.Native.Nat.{_≤_, _<_, _^_};
 ghost use lib.ListN.{length, drop, take};
 ghost use Rattle.calls.specs.Numbers.{numberOf, between};
 ghost use Rattle.scan.specs.Answers.{readTo};
 ghost use Rattle.scan.specs.Reading.{found};
-ghost use Rattle.report_input.specs.Input.{at, unsigned, maskValue, llrValue, settingsOf, head, row, rows, tested, sized, meaning, InputRead};
-ghost use Rattle.report_input.specs.Answers.{headRead, rowRead, blockOf, numberIn};
+ghost use Rattle.report_input.specs.Input.{valueAt, unsigned, maskValue, llrValue, settingsOf, head};
+ghost use Rattle.report_input.specs.Input.{blockOf, positionLine, positionLines, tested, sized, meaning, InputRead};
+ghost use Rattle.report_input.specs.Private.{headRead, positionRead, firstOf, numberIn};
 use calls::Answer;
 use calls::Refusal;
 use scan::Next;
 use settings::Room;
 use settings::Settings;
+
+// The most bytes of an accepted text.
+pub const LONGEST_TEXT: usize = 32768;
+
+// What a value below zero counts as: it lies outside every range as well.
+const OUTSIDE_RANGES: u32 = 1000000;
+
+// The positions of the largest block, and the elements of its workspace.
+pub const MOST_POSITIONS: usize = 1024;
+
+pub const MOST_WORKSPACE: usize = 22528;
 
 // The settings of an accepted text, whose mask and LLRs stand in the lent slices.
 pub enum Input {
@@ -33,11 +45,15 @@ pub enum Position {
     Malformed,
 }
 
-// A value that can't be below zero; one that is counts as a number outside every range.
+// A value that can't be below zero.
 fn unsigned(value: i32) -> u32
     ensures { λ r. ⌜ r ≡ unsigned value ⌝ }
 {
-    if value < 0 { 1000000 } else { value as u32 }
+    if value < 0 {
+        OUTSIDE_RANGES
+    } else {
+        value as u32
+    }
 }
 
 // A mask value; 256 is no 0.
@@ -64,7 +80,7 @@ fn llr_value(value: i32) -> i16
 // The value at a place of the settings' line.
 fn setting(values: &[i32; 6], place: usize) -> u32
     requires { ⌜ place < 6 ⌝ }
-    ensures { λ r. ⌜ r ≡ unsigned (at (now (values .entry)) place) ⌝ }
+    ensures { λ r. ⌜ r ≡ unsigned (valueAt (now (values .entry)) place) ⌝ }
 {
     unsigned(values[place])
 }
@@ -107,8 +123,8 @@ fn read_head(text: &[u8]) -> Head
 }
 
 // The line of a position.
-fn row(text: &[u8], at: usize, position: usize) -> Position
-    ensures { λ r. ⌜ row position (drop at (now (text .entry))) ≡ rowRead (now (text .entry)) r ⌝ }
+fn position_line(text: &[u8], at: usize, position: usize) -> Position
+    ensures { λ r. ⌜ positionLine position (drop at (now (text .entry))) ≡ positionRead (now (text .entry)) r ⌝ }
 {
     let mut values = [0i32; 3];
     let line = scan::line(text, at, 3, &mut values);
@@ -127,16 +143,17 @@ fn row(text: &[u8], at: usize, position: usize) -> Position
 }
 
 // The lines of n positions.
-fn rows(text: &[u8], at: usize, n: usize, mask: &mut [u8], llr: &mut [i16]) -> Next
+fn position_lines(text: &[u8], at: usize, n: usize, mask: &mut [u8], llr: &mut [i16]) -> Next
     requires { ⌜ (n ≤ length (now mask)) × (n ≤ length (now llr)) ⌝ }
-    ensures { λ r. ⌜ rows n 0 (drop at (now (text .entry))) ≡ readTo (now (text .entry)) (blockOf n (now (mask .exit)) (now (llr .exit))) r ⌝ }
+    ensures { λ r. ⌜ positionLines n 0 (drop at (now (text .entry)))
+        ≡ readTo (now (text .entry)) (firstOf n (now (mask .exit)) (now (llr .exit))) r ⌝ }
     ensures { λ _. ⌜ drop n (now (mask .exit)) ≡ drop n (now (mask .entry)) ⌝ }
     ensures { λ _. ⌜ drop n (now (llr .exit)) ≡ drop n (now (llr .entry)) ⌝ }
 {
     let mut i = 0;
     let mut next = at;
     while i < n {
-        let position = row(text, next, i);
+        let position = position_line(text, next, i);
         let Position::Found {
             frozen: frozen,
             llr: value,
@@ -153,16 +170,18 @@ fn rows(text: &[u8], at: usize, n: usize, mask: &mut [u8], llr: &mut [i16]) -> N
     Next::At(next)
 }
 
-// What refuses the lines of the positions, where the settings' m is in its range. They are read into memory of its own, so that nothing is written yet.
+// What refuses the lines of the positions, where the settings' m is in its range. They are read into memory of its own,
+// so that nothing is written yet.
 fn refusal(text: &[u8], at: usize, settings: Settings) -> Answer
     requires { ⌜ (1 ≤ settings .m) × (settings .m ≤ 10) ⌝ }
-    ensures { λ r. ⌜ numberOf r ≡ numberIn (tested settings (rows (2 ^ settings .m) 0 (drop at (now (text .entry))))) ⌝ }
+    ensures { λ r. ⌜ numberOf r
+        ≡ numberIn (tested settings (positionLines (2 ^ settings .m) 0 (drop at (now (text .entry))))) ⌝ }
 {
     let m = settings.m;
     let n = polar::power_of_two(m);
-    let mut mask = [0u8; 1024];
-    let mut llr = [0i16; 1024];
-    let read = rows(text, at, n, &mut mask, &mut llr);
+    let mut mask = [0u8; MOST_POSITIONS];
+    let mut llr = [0i16; MOST_POSITIONS];
+    let read = position_lines(text, at, n, &mut mask, &mut llr);
     let Next::At(end) = read else {
         return Answer::Refused(Refusal::MalformedText);
     };
@@ -170,11 +189,11 @@ fn refusal(text: &[u8], at: usize, settings: Settings) -> Answer
         return Answer::Refused(Refusal::MalformedText);
     }
     let room = Room {
-        soft: 1024,
-        mark: 1024,
-        coded_soft: 1024,
-        coded_mark: 1024,
-        work: 22528,
+        soft: MOST_POSITIONS,
+        mark: MOST_POSITIONS,
+        coded_soft: MOST_POSITIONS,
+        coded_mark: MOST_POSITIONS,
+        work: MOST_WORKSPACE,
     };
     settings::refusal(settings, &mask[..n], &llr[..n], room)
 }
@@ -191,10 +210,11 @@ fn read_block(
     text: &[u8],
     at: usize,
     settings: Settings,
-    mask: &mut [u8; 1024],
-    llr: &mut [i16; 1024],
+    mask: &mut [u8; MOST_POSITIONS],
+    llr: &mut [i16; MOST_POSITIONS],
 ) -> Input
-    ensures { λ r. ⌜ InputRead (sized (found settings (drop at (now (text .entry))))) (now (mask .entry)) (now (llr .entry)) (now (mask .exit)) (now (llr .exit)) r ⌝ }
+    ensures { λ r. ⌜ InputRead (sized (found settings (drop at (now (text .entry)))))
+        (blockOf (now (mask .entry)) (now (llr .entry))) (blockOf (now (mask .exit)) (now (llr .exit))) r ⌝ }
 {
     let m = settings.m;
     if !is_block_length(m) {
@@ -203,17 +223,18 @@ fn read_block(
     match refusal(text, at, settings) {
         Answer::Refused(refusal) => Input::Refused(refusal),
         Answer::Done => {
-            rows(text, at, polar::power_of_two(m), mask, llr);
+            position_lines(text, at, polar::power_of_two(m), mask, llr);
             Input::Accepted(settings)
         }
     }
 }
 
 // Settings, mask and LLRs of a text.
-pub fn read(text: &[u8], mask: &mut [u8; 1024], llr: &mut [i16; 1024]) -> Input
-    ensures { λ r. ⌜ InputRead (meaning (now (text .entry))) (now (mask .entry)) (now (llr .entry)) (now (mask .exit)) (now (llr .exit)) r ⌝ }
+pub fn read(text: &[u8], mask: &mut [u8; MOST_POSITIONS], llr: &mut [i16; MOST_POSITIONS]) -> Input
+    ensures { λ r. ⌜ InputRead (meaning (now (text .entry)))
+        (blockOf (now (mask .entry)) (now (llr .entry))) (blockOf (now (mask .exit)) (now (llr .exit))) r ⌝ }
 {
-    if 32768 < text.len() {
+    if LONGEST_TEXT < text.len() {
         return Input::Refused(Refusal::MalformedText);
     }
     match read_head(text) {

@@ -9,9 +9,9 @@ use Rattle.decoder.specs.Decoder.{after, ending}
 use Rattle.scan.specs.Numbers.{digits, natural, number}
 use Rattle.scan.specs.Lines.{spaces, separator, line, literal}
 use Rattle.calls.specs.Texts.{bytes}
-use Rattle.format.specs.Decimal as print
-use Rattle.report_input.specs.Input.{head, row, rows, meaning}
-use Rattle.report_text.specs.Report.{refusalText, lines, outcomeText, report}
+use Rattle.format.specs.Decimal as format
+use Rattle.report_input.specs.Input as input
+use Rattle.report_text.specs.Report.{refusalText, positionLines, outcomeText, report}
 
 -- the first three lines of document 01's input
 abbrev names : List ℕ
@@ -28,6 +28,7 @@ pub reports : map (λ block. report (names ++ block)) blocks
     ∷ bytes "refused\n14\n"
     ∷ []
 unfolding add f setRow leftStep rightStep start after ending
-    digits natural number spaces separator line literal head row rows meaning
-    print.digits print.decimal print.shown print.line refusalText lines outcomeText report
+    digits natural number spaces separator line literal
+    input.head input.positionLine input.positionLines input.meaning
+    format.digits format.decimal format.shown format.line refusalText positionLines outcomeText report
 reports = refl

@@ -1,4 +1,4 @@
 pub mod Report
-pub mod Working
+pub mod Private
 pub mod ReportLaws
 pub mod Cases

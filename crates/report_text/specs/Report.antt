@@ -17,13 +17,16 @@ refusalText number = bytes "refused\n" ++ line (pos number ∷ [])
 -- ---- an outcome
 
 -- a line for each of n positions from p on
-unfoldable pub lines : (ℕ → List ℤ) → ℕ → ℕ → List ℕ
-lines values zero p = []
-lines values (suc n) p = line (values p) ++ lines values n (suc p)
+unfoldable pub positionLines : (ℕ → List ℤ) → ℕ → ℕ → List ℕ
+positionLines values zero p = []
+positionLines values (suc n) p = line (values p) ++ positionLines values n (suc p)
 
 -- of a position its number, soft output, mark, coded soft output and coded mark
+abbrev pub positionValues : ℕ → ℤ → ℕ → ℤ → ℕ → List ℤ
+positionValues p soft mark codedSoft codedMark = pos p ∷ soft ∷ pos mark ∷ codedSoft ∷ pos codedMark ∷ []
+
 abbrev pub outputs : (ℕ → ℤ) → (ℕ → ℕ) → (ℕ → ℤ) → (ℕ → ℕ) → ℕ → List ℤ
-outputs soft mark codedSoft codedMark p = pos p ∷ soft p ∷ pos (mark p) ∷ codedSoft p ∷ pos (codedMark p) ∷ []
+outputs soft mark codedSoft codedMark p = positionValues p (soft p) (mark p) (codedSoft p) (codedMark p)
 
 -- names, the iteration and the reason, names, and the N positions in order
 unfoldable pub outcomeText : Ending → ℕ → (ℕ → List ℤ) → List ℕ
@@ -31,7 +34,7 @@ outcomeText e N values =
     bytes "iterations reason\n"
     ++ line (pos (e .iteration) ∷ pos (e .reason) ∷ [])
     ++ bytes "position soft mark coded codedmark\n"
-    ++ lines values N 0
+    ++ positionLines values N 0
 
 -- the outputs of a workspace
 abbrev pub outputsOf : Settings → List ℤ → ℕ → List ℤ

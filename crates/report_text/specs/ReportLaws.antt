@@ -30,27 +30,26 @@ use Rattle.format.specs.Decimal.{line}
 use Rattle.format.specs.DecimalLaws.{line-length}
 use Rattle.report_input.specs.Input.{largest}
 use Rattle.report_input.specs.InputLaws.{Fit}
-use Rattle.report_text.specs.Report.{lines, outputsOf, outcomeText, blockText}
-use Rattle.report_text.specs.Working.{held, headingText}
-use Rattle.report_text.specs.Working as working
+use Rattle.report_text.specs.Report.{positionLines, outputsOf, outcomeText, blockText}
+use Rattle.report_text.specs.Private.{sliceValues, endingOf, headingText}
 
 -- ---- the lines of the positions, one by one
 
-pub lines-next : (values : ℕ → List ℤ) (n i : ℕ) → i < n → lines values (n - i) i ≡ line (values i) ++ lines values (n - (i + 1)) (i + 1)
-unfolding lines
-lines-next values n i h = let left : n - i ≡ suc (n - suc i) = omega arith in rw (left, add-one i)
+pub position-lines-next : (values : ℕ → List ℤ) (n i : ℕ) → i < n → positionLines values (n - i) i ≡ line (values i) ++ positionLines values (n - (i + 1)) (i + 1)
+unfolding positionLines
+position-lines-next values n i h = let left : n - i ≡ suc (n - suc i) = omega arith in rw (left, add-one i)
 
-pub lines-end : (values : ℕ → List ℤ) (n : ℕ) → lines values (n - n) n ≡ []
-unfolding lines
-lines-end values n = let left : n - n ≡ 0 = omega arith in rw left
+pub position-lines-end : (values : ℕ → List ℤ) (n : ℕ) → positionLines values (n - n) n ≡ []
+unfolding positionLines
+position-lines-end values n = let left : n - n ≡ 0 = omega arith in rw left
 
 -- only the values of the positions count
-pub lines-same : (values values′ : ℕ → List ℤ) (n p : ℕ) → ((i : ℕ) → p ≤ i → i < p + n → values i ≡ values′ i) → lines values n p ≡ lines values′ n p
-unfolding lines
-lines-same values values′ zero p same = refl
-lines-same values values′ (suc n) p same =
+pub position-lines-same : (values values′ : ℕ → List ℤ) (n p : ℕ) → ((i : ℕ) → p ≤ i → i < p + n → values i ≡ values′ i) → positionLines values n p ≡ positionLines values′ n p
+unfolding positionLines
+position-lines-same values values′ zero p same = refl
+position-lines-same values values′ (suc n) p same =
     ap₂ (λ (a b : List ℕ). a ++ b) (ap line (same p (omega arith) (omega arith)))
-    (lines-same values values′ n (suc p) (λ i l h. same i (omega arith) (omega arith)))
+    (position-lines-same values values′ n (suc p) (λ i l h. same i (omega arith) (omega arith)))
 
 -- ---- room
 
@@ -58,12 +57,12 @@ pub reason-le : (r : Reason) → reasonNumber r ≤ 2
 reason-le Criterion = lit≤ tt
 reason-le Limit = lit≤ tt
 
-pub lines-room : (values : ℕ → List ℤ) (n p : ℕ) → ((i : ℕ) → p ≤ i → i < p + n → length (line (values i)) ≤ 30) → length (lines values n p) ≤ 30 * n
-unfolding lines
-lines-room values zero p short = omega arith
-lines-room values (suc n) p short =
-    let rest = lines-room values n (suc p) (λ i l h. short i (omega arith) (omega arith)) in
-    omega (arith, rest, short p (omega arith) (omega arith), length-append (line (values p)) (lines values n (suc p)))
+pub position-lines-room : (values : ℕ → List ℤ) (n p : ℕ) → ((i : ℕ) → p ≤ i → i < p + n → length (line (values i)) ≤ 30) → length (positionLines values n p) ≤ 30 * n
+unfolding positionLines
+position-lines-room values zero p short = omega arith
+position-lines-room values (suc n) p short =
+    let rest = position-lines-room values n (suc p) (λ i l h. short i (omega arith) (omega arith)) in
+    omega (arith, rest, short p (omega arith) (omega arith), length-append (line (values p)) (positionLines values n (suc p)))
 
 pub outputs-short : (s : Settings) (w : List ℤ) (i : ℕ) → s .ceiling ≤ 2047 → i < 1024 → length (line (outputsOf s w i)) ≤ 30
 outputs-short s w i C h =
@@ -88,7 +87,7 @@ fit-length {s} {mask} {llr} fit = accepted s mask llr largest (fit .number) .m-l
 pub record DecodedBlock (s : Settings) (mask : List ℕ) (llr work soft : List ℤ) (mark : List ℕ) (codedSoft : List ℤ) (codedMark : List ℕ) (r : Outcome) : Type 0 where
   pub answer : resultOf r ≡ ended (ending s mask llr work .iteration) (ending s mask llr work .reason)
   pub iteration-le : ending s mask llr work .iteration ≤ 200
-  pub values : (i : ℕ) → i < 2 ^ s .m → held soft mark codedSoft codedMark i ≡ outputsOf s (final s mask llr work) i
+  pub values : (i : ℕ) → i < 2 ^ s .m → sliceValues soft mark codedSoft codedMark i ≡ outputsOf s (final s mask llr work) i
   pub size : 2 ^ s .m ≤ 1024
   pub ceiling-le : s .ceiling ≤ 2047
 
@@ -134,7 +133,7 @@ module _ {s : Settings} {mask : List ℕ} {llr work soft : List ℤ} {mark : Lis
       isRefusal (ended t reason) = false
 
   -- its ending is the decoder's
-  pub ending-is : (t : ℕ) (reason : Reason) → r ≡ Ended t reason → working.ending t reason ≡ ending s mask llr work
+  pub ending-is : (t : ℕ) (reason : Reason) → r ≡ Ended t reason → endingOf t reason ≡ ending s mask llr work
   ending-is t reason e = ap endingIn (sym (ap resultOf e) ∙ b .answer)
     where
       endingIn : Result → Ending
@@ -145,16 +144,16 @@ module _ {s : Settings} {mask : List ℕ} {llr work soft : List ℤ} {mark : Lis
   iterations-short t reason e = omega (arith, b .iteration-le, ap (λ (e : Ending). e .iteration) (ending-is t reason e))
 
   -- its lines have room, and are those of the definition
-  pub block-room : (n : ℕ) → n ≡ 2 ^ s .m → length (lines (held soft mark codedSoft codedMark) n 0) ≤ 30 * n
+  pub block-room : (n : ℕ) → n ≡ 2 ^ s .m → length (positionLines (sliceValues soft mark codedSoft codedMark) n 0) ≤ 30 * n
   block-room n e =
-      lines-room (held soft mark codedSoft codedMark) n 0
+      position-lines-room (sliceValues soft mark codedSoft codedMark) n 0
       (λ i l h. rw (b .values i (omega arith)) (outputs-short s (final s mask llr work) i (b .ceiling-le) (omega (arith, b .size))))
 
   pub block-text : (n t : ℕ) (reason : Reason) → n ≡ 2 ^ s .m → r ≡ Ended t reason
-      → outcomeText (working.ending t reason) n (held soft mark codedSoft codedMark) ≡ blockText s mask llr work
+      → outcomeText (endingOf t reason) n (sliceValues soft mark codedSoft codedMark) ≡ blockText s mask llr work
   unfolding outcomeText
   block-text n t reason size e =
-      ap (λ (x : Ending). outcomeText x n (held soft mark codedSoft codedMark)) (ending-is t reason e)
-      ∙ ap (λ (k : ℕ). outcomeText (ending s mask llr work) k (held soft mark codedSoft codedMark)) size
+      ap (λ (x : Ending). outcomeText x n (sliceValues soft mark codedSoft codedMark)) (ending-is t reason e)
+      ∙ ap (λ (k : ℕ). outcomeText (ending s mask llr work) k (sliceValues soft mark codedSoft codedMark)) size
       ∙ ap (λ (l : List ℕ). headingText (ending s mask llr work) ++ l)
-      (lines-same (held soft mark codedSoft codedMark) (outputsOf s (final s mask llr work)) (2 ^ s .m) 0 (λ i l h. b .values i (omega arith)))
+      (position-lines-same (sliceValues soft mark codedSoft codedMark) (outputsOf s (final s mask llr work)) (2 ^ s .m) 0 (λ i l h. b .values i (omega arith)))

@@ -8,8 +8,8 @@ ghost use Rattle.calls.specs.Numbers.{refusalNumber};
 ghost use Rattle.report_input.specs.InputLaws.{Fit};
 ghost use Rattle.format.specs.Decimal.{line};
 ghost use Rattle.format.specs.Wrote.{Wrote};
-ghost use Rattle.report_text.specs.Report.{refusalText, lines, outcomeText, blockText, report};
-ghost use Rattle.report_text.specs.Working.{held, row, ending, headingText, Within};
+ghost use Rattle.report_text.specs.Report.{refusalText, positionValues, positionLines, outcomeText, blockText, report};
+ghost use Rattle.report_text.specs.Private.{sliceValues, endingOf, headingText, Within};
 use calls::Answer;
 use calls::Refusal;
 use decoder::Outcome;
@@ -29,7 +29,7 @@ fn refused(out: &mut [u8], refusal: Refusal) -> usize
 }
 
 // The line of a position.
-fn row(
+fn position_line(
     out: &mut [u8],
     at: usize,
     position: usize,
@@ -38,8 +38,8 @@ fn row(
     coded_soft: i16,
     coded_mark: u8,
 ) -> usize
-    requires { ⌜ (position ≤ 1024) × (at + length (line (row position soft mark «coded_soft» «coded_mark»)) ≤ length (now out)) ⌝ }
-    ensures { λ r. ⌜ Wrote (now (out .entry)) at (line (row position soft mark «coded_soft» «coded_mark»)) (now (out .exit)) r ⌝ }
+    requires { ⌜ (position ≤ 1024) × (at + length (line (positionValues position soft mark «coded_soft» «coded_mark»)) ≤ length (now out)) ⌝ }
+    ensures { λ r. ⌜ Wrote (now (out .entry)) at (line (positionValues position soft mark «coded_soft» «coded_mark»)) (now (out .exit)) r ⌝ }
 {
     let values = [
         position as i32,
@@ -52,7 +52,7 @@ fn row(
 }
 
 // The lines of the first n positions.
-fn rows(
+fn position_lines(
     out: &mut [u8],
     at: usize,
     n: usize,
@@ -62,13 +62,13 @@ fn rows(
     coded_mark: &[u8],
 ) -> usize
     requires { ⌜ (n ≤ 1024) × (n ≤ length (now soft)) × (n ≤ length (now mark)) × (n ≤ length (now «coded_soft»)) × (n ≤ length (now «coded_mark»)) ⌝ }
-    requires { ⌜ at + length (lines (held (now soft) (now mark) (now «coded_soft») (now «coded_mark»)) n 0) ≤ length (now out) ⌝ }
-    ensures { λ r. ⌜ Wrote (now (out .entry)) at (lines (held (now (soft .entry)) (now (mark .entry)) (now («coded_soft» .entry)) (now («coded_mark» .entry))) n 0) (now (out .exit)) r ⌝ }
+    requires { ⌜ at + length (positionLines (sliceValues (now soft) (now mark) (now «coded_soft») (now «coded_mark»)) n 0) ≤ length (now out) ⌝ }
+    ensures { λ r. ⌜ Wrote (now (out .entry)) at (positionLines (sliceValues (now (soft .entry)) (now (mark .entry)) (now («coded_soft» .entry)) (now («coded_mark» .entry))) n 0) (now (out .exit)) r ⌝ }
 {
     let mut end = at;
     let mut i: usize = 0;
     while i < n {
-        end = row(out, end, i, soft[i], mark[i], coded_soft[i], coded_mark[i]);
+        end = position_line(out, end, i, soft[i], mark[i], coded_soft[i], coded_mark[i]);
         i += 1;
     }
     end
@@ -77,7 +77,7 @@ fn rows(
 // The first three lines of an outcome.
 fn heading(out: &mut [u8], iterations: u32, reason: Reason) -> usize
     requires { ⌜ (iterations ≤ 9999) × (100 ≤ length (now out)) ⌝ }
-    ensures { λ r. ⌜ Wrote (now (out .entry)) 0 (headingText (ending iterations reason)) (now (out .exit)) r ⌝ }
+    ensures { λ r. ⌜ Wrote (now (out .entry)) 0 (headingText (endingOf iterations reason)) (now (out .exit)) r ⌝ }
 {
     let end = format::copy(out, 0, b"iterations reason\n");
     let values = [iterations as i32, decoder::reason_number(reason) as i32];
@@ -98,12 +98,12 @@ fn outcome(
 ) -> usize
     requires { ⌜ (iterations ≤ 9999) × (32768 ≤ length (now out)) ⌝ }
     requires { ⌜ (n ≤ 1024) × (n ≤ length (now soft)) × (n ≤ length (now mark)) × (n ≤ length (now «coded_soft»)) × (n ≤ length (now «coded_mark»)) ⌝ }
-    requires { ⌜ length (lines (held (now soft) (now mark) (now «coded_soft») (now «coded_mark»)) n 0) ≤ 30 * n ⌝ }
-    ensures { λ r. ⌜ Wrote (now (out .entry)) 0 (outcomeText (ending iterations reason) n (held (now (soft .entry)) (now (mark .entry)) (now («coded_soft» .entry)) (now («coded_mark» .entry)))) (now (out .exit)) r ⌝ }
+    requires { ⌜ length (positionLines (sliceValues (now soft) (now mark) (now «coded_soft») (now «coded_mark»)) n 0) ≤ 30 * n ⌝ }
+    ensures { λ r. ⌜ Wrote (now (out .entry)) 0 (outcomeText (endingOf iterations reason) n (sliceValues (now (soft .entry)) (now (mark .entry)) (now («coded_soft» .entry)) (now («coded_mark» .entry)))) (now (out .exit)) r ⌝ }
     ensures { λ r. ⌜ r ≤ 32768 ⌝ }
 {
     let end = heading(out, iterations, reason);
-    rows(out, end, n, soft, mark, coded_soft, coded_mark)
+    position_lines(out, end, n, soft, mark, coded_soft, coded_mark)
 }
 
 // The outcome of an accepted block, in a workspace with room for every block.

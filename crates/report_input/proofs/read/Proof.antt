@@ -3,7 +3,7 @@ use mathlib.Core.Path.{_≡_, ap, _∙_}
 use Rattle.calls.specs.declared.Refusal.the-variants.{MalformedText}
 use Rattle.report_input.specs.Input.{sized}
 use Rattle.report_input.specs.InputLaws.{read-refused, meaning-long, meaning-sized}
-use Rattle.report_input.specs.Answers.{headRead}
+use Rattle.report_input.specs.Private.{headRead}
 use borrow.Author.Needs.{needs}
 use Rattle.report_input.proofs.read.Statement.{statement}
 use Rattle.report_input.proofs.read.Tie as tie

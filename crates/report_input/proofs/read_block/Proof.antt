@@ -17,7 +17,7 @@ use Rattle.report_input.proofs.read_block.Reads as reads
 use Rattle.report_input.proofs.read_block.Lts as lts
 use Rattle.report_input.proofs.is_block_length.Reads as is-block-length-reads
 use Rattle.report_input.proofs.refusal.Reads as refusal-reads
-use Rattle.report_input.proofs.rows.Reads as rows-reads
+use Rattle.report_input.proofs.position_lines.Reads as position-lines-reads
 use Rattle.polar.proofs.power_of_two.Reads as power-of-two-reads
 
 passed : (c : tie.Else1) → between 1 10 (c .before .before .before .args .settings .m) ≡ true
@@ -50,8 +50,8 @@ enum-told c = search needs
 power-of-two-requires : tie.Need-power-of-two-requires
 power-of-two-requires c κs = range (c .before .before .before) .1
 
-rows-requires : tie.Need-rows-requires
-rows-requires c κs = omega (arith, small (c .before .before), c .before .rows-arg .given, c .rows-arg2 .given)
+position-lines-requires : tie.Need-position-lines-requires
+position-lines-requires c κs = omega (arith, small (c .before .before), c .before .position-lines-arg .given, c .position-lines-arg2 .given)
 
 returns-2 : tie.Need-returns-2
 returns-2 c =
@@ -65,8 +65,8 @@ returns-3 c =
     let a = c .before .before .before .before .before .before .before .before .before .before .args in
     let called = sym (ap numberOf (c .before .before .before .before .enum-told .given .1)) ∙ c .before .before .before .before .before .before .refusal .ensures in
     rw (sized-tested (a .settings) (drop (a .at) (a .text .now)) (passed (c .before .before .before .before .before .before .before)))
-    (read-accepted (a .settings) (a .text .now) (drop (a .at) (a .text .now)) (c .before .before .before .power-of-two .result) (c .rows .result)
-    called (c .before .before .before .power-of-two .ensures) (c .rows .ensures .0) (c .rows .ensures .1 .0) (c .rows .ensures .1 .1))
+    (read-accepted (a .settings) (a .text .now) (drop (a .at) (a .text .now)) (c .before .before .before .power-of-two .result) (c .position-lines .result)
+    called (c .before .before .before .power-of-two .ensures) (c .position-lines .ensures .0) (c .position-lines .ensures .1 .0) (c .position-lines .ensures .1 .1))
 
 pub read-block-spec : {M : Type 1} → statement M
 read-block-spec =
@@ -78,6 +78,6 @@ read-block-spec =
     enum-known-refusal
     enum-told
     power-of-two-requires
-    rows-requires
+    position-lines-requires
     returns-2
     returns-3)

@@ -7,48 +7,48 @@ use lib.Pow.{pow-mono}
 use lib.Seq.{length-take-le}
 use Rattle.scan.specs.Reading.{found}
 use Rattle.scan.specs.Answers.{readTo}
-use Rattle.report_input.specs.Input.{Block, rows}
+use Rattle.report_input.specs.Input.{Block, positionLines}
 use Rattle.report_input.specs.InputLaws.{lines-malformed, lines-followed, lines-number}
-use Rattle.report_input.specs.Answers.{blockOf}
+use Rattle.report_input.specs.Private.{firstOf}
 use borrow.Author.Needs.{needs}
 use Rattle.report_input.proofs.refusal.Statement.{statement}
 use Rattle.report_input.proofs.refusal.Tie as tie
 use Rattle.report_input.proofs.refusal.Reads as reads
 use Rattle.report_input.proofs.refusal.Lts as lts
-use Rattle.report_input.proofs.rows.Reads as rows-reads
+use Rattle.report_input.proofs.position_lines.Reads as position-lines-reads
 use Rattle.polar.proofs.power_of_two.Reads as power-of-two-reads
 use Rattle.settings.proofs.refusal.Reads as refusal-reads
 
 small : (c : tie.After-power-of-two) → c .power-of-two .result ≤ 2 ^ 10
 small c = rw (c .power-of-two .ensures) (pow-mono (c .before .before .pre .1))
 
--- what the call of `rows` read
-abbrev block : tie.After-rows → Block
-block c = blockOf (c .before .before .before .power-of-two .result) (c .rows .last .1 .1 .1 .0) (c .rows .last .1 .1 .1 .1 .0)
+-- what the call of `position_lines` read
+abbrev block : tie.After-position-lines → Block
+block c = firstOf (c .before .before .before .power-of-two .result) (c .position-lines .last .1 .1 .1 .0) (c .position-lines .last .1 .1 .1 .1 .0)
 
-read : (c : tie.After-rows) →
+read : (c : tie.After-position-lines) →
     let s = c .before .before .before .before .before in
-    rows (2 ^ s .args .settings .m) 0 (drop (s .args .at) (s .args .text .now)) ≡ readTo (s .args .text .now) (block c) (c .rows .result)
+    positionLines (2 ^ s .args .settings .m) 0 (drop (s .args .at) (s .args .text .now)) ≡ readTo (s .args .text .now) (block c) (c .position-lines .result)
 read c =
     let s = c .before .before .before .before .before in
-    ap (λ (n : ℕ). rows n 0 (drop (s .args .at) (s .args .text .now))) (sym (c .before .before .before .power-of-two .ensures)) ∙ c .rows .ensures .0
+    ap (λ (n : ℕ). positionLines n 0 (drop (s .args .at) (s .args .text .now))) (sym (c .before .before .before .power-of-two .ensures)) ∙ c .position-lines .ensures .0
 
 at-end : (c : tie.After-known-told) →
     let s = c .before .before .before .before .before .before .before .before .before .before in
-    rows (2 ^ s .args .settings .m) 0 (drop (s .args .at) (s .args .text .now)) ≡ found (block (c .before .before .before .before .before)) (drop (c .before .read .given .0 .0) (s .args .text .now))
+    positionLines (2 ^ s .args .settings .m) 0 (drop (s .args .at) (s .args .text .now)) ≡ found (block (c .before .before .before .before .before)) (drop (c .before .read .given .0 .0) (s .args .text .now))
 at-end c = read (c .before .before .before .before .before) ∙ ap (readTo (c .before .before .before .before .before .before .before .before .before .before .args .text .now) (block (c .before .before .before .before .before))) (c .before .read .given .1)
 
 power-of-two-requires : tie.Need-power-of-two-requires
 power-of-two-requires c κs = search needs
 
-slice-aggregate-rows : tie.Need-slice-aggregate-rows
-slice-aggregate-rows c = search needs
+slice-aggregate-position-lines : tie.Need-slice-aggregate-position-lines
+slice-aggregate-position-lines c = search needs
 
-slice-aggregate-rows-2 : tie.Need-slice-aggregate-rows-2
-slice-aggregate-rows-2 c = search needs
+slice-aggregate-position-lines-2 : tie.Need-slice-aggregate-position-lines-2
+slice-aggregate-position-lines-2 c = search needs
 
-rows-requires : tie.Need-rows-requires
-rows-requires c κs = (small (c .before .before), small (c .before .before))
+position-lines-requires : tie.Need-position-lines-requires
+position-lines-requires c κs = (small (c .before .before), small (c .before .before))
 
 enum-known-read : tie.Need-enum-known-read
 enum-known-read c = search needs
@@ -92,9 +92,9 @@ refusal-spec =
     tie.close
     (tie.spec
     power-of-two-requires
-    slice-aggregate-rows
-    slice-aggregate-rows-2
-    rows-requires
+    slice-aggregate-position-lines
+    slice-aggregate-position-lines-2
+    position-lines-requires
     enum-known-read
     enum-told
     returns

@@ -30,8 +30,8 @@ module _ (c : tie.After-number) where
   small : c .number .result ≤ 99
   small = rw (c .number .ensures) (refusal-digits (c .before .before .args .refusal))
 
-  held : toZ w32 (c .number .result) ≡ pos number
-  held = natural-held (c .number .result) (omega (arith, small)) ∙ ap pos (c .number .ensures)
+  number-is : toZ w32 (c .number .result) ≡ pos number
+  number-is = natural-held (c .number .result) (omega (arith, small)) ∙ ap pos (c .number .ensures)
 
 number-requires : tie.Need-number-requires
 number-requires c κs = search needs
@@ -53,7 +53,7 @@ line-requires c κs =
     let n = c .before .before .before .before .before .before .before in
     let written = c .before .before .before .before .copy .ensures in
     let names : c .before .before .before .before .copy .result ≡ 8 = written .next-is in
-    rw (held n) (omega (arith, n .before .before .pre, wrote-length written, line-length (pos (number n) ∷ []) (omega (arith, small n))))
+    rw (number-is n) (omega (arith, n .before .before .pre, wrote-length written, line-length (pos (number n) ∷ []) (omega (arith, small n))))
 
 same-length : tie.Need-same-length
 same-length c = search needs
@@ -65,7 +65,7 @@ returns c =
     let written = c .before .before .before .before .before .before .before .copy in
     let line-written = c .before .before .line in
     let names : written .result ≡ 8 = written .ensures .next-is in
-    let second = subst (λ (z : ℤ). Wrote (written .last .0) (written .result) (line (z ∷ [])) (line-written .last .0) (line-written .result)) (held n) (line-written .ensures) in
+    let second = subst (λ (z : ℤ). Wrote (written .last .0) (written .result) (line (z ∷ [])) (line-written .last .0) (line-written .result)) (number-is n) (line-written .ensures) in
     (wrote-then (written .ensures) second, omega (arith, second .next-is, line-length (pos (number n) ∷ []) (omega (arith, small n))))
 
 pub refused-spec : {M : Type 1} → statement M

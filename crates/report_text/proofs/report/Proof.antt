@@ -8,7 +8,7 @@ use lib.ListN.{length, take, length-take, length-replicate}
 use lib.Seq.{length-take-le}
 use Rattle.format.specs.Wrote.{Wrote}
 use Rattle.format.specs.WroteLaws.{wrote-length}
-use Rattle.report_text.specs.Working.{Within}
+use Rattle.report_text.specs.Private.{Within}
 use Rattle.report_input.specs.Input.{meaning}
 use Rattle.report_input.specs.ReadLaws.{AcceptedText, accepted-text, refused-text}
 use Rattle.report_text.specs.Report.{textOf, report}

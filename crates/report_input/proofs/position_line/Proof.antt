@@ -1,4 +1,4 @@
--- `row` meets its contract.
+-- `position_line` meets its contract.
 use mathlib.Core.Path.{_≡_, ap, _∙_}
 use mathlib.Core.List.{List}
 use borrow.Author.Tests.{eq-eqb, ne-eqb}
@@ -11,14 +11,14 @@ use Prim.Native.Nat.{ℕ}
 use Rattle.scan.specs.Reading.{found, malformed}
 use Rattle.scan.specs.Lines.{line}
 use Rattle.scan.specs.Answers.{readTo}
-use Rattle.report_input.specs.Input.{at, unsigned, maskValue, llrValue}
-use Rattle.report_input.specs.InputLaws.{row-found, row-malformed}
+use Rattle.report_input.specs.Input.{valueAt, unsigned, maskValue, llrValue}
+use Rattle.report_input.specs.InputLaws.{position-line-found, position-line-malformed}
 use Rattle.scan.proofs.Signed.{kept}
 use borrow.Author.Needs.{needs}
-use Rattle.report_input.proofs.row.Statement.{statement}
-use Rattle.report_input.proofs.row.Tie as tie
-use Rattle.report_input.proofs.row.Reads as reads
-use Rattle.report_input.proofs.row.Lts as lts
+use Rattle.report_input.proofs.position_line.Statement.{statement}
+use Rattle.report_input.proofs.position_line.Tie as tie
+use Rattle.report_input.proofs.position_line.Reads as reads
+use Rattle.report_input.proofs.position_line.Lts as lts
 use Rattle.report_input.proofs.llr_value.Reads as llr-value-reads
 use Rattle.report_input.proofs.mask_value.Reads as mask-value-reads
 use Rattle.report_input.proofs.unsigned.Reads as unsigned-reads
@@ -33,8 +33,8 @@ read : (c : tie.After-known-told) →
     line 3 (drop (a .at) (a .text .now)) ≡ found (take 3 (values c)) (drop (c .before .line2 .given .0 .0) (a .text .now))
 read c = c .before .before .before .before .line .ensures .0 ∙ ap (readTo (c .before .before .before .before .before .before .before .args .text .now) (take 3 (values c))) (c .before .line2 .given .1)
 
-position : (c : tie.After-unsigned) → c .unsigned .result ≡ unsigned (at (values (c .before .before)) 0)
-position c = c .unsigned .ensures ∙ ap unsigned (kept (at (values (c .before .before)) 0) (c .before .unsigned-arg .given))
+position : (c : tie.After-unsigned) → c .unsigned .result ≡ unsigned (valueAt (values (c .before .before)) 0)
+position c = c .unsigned .ensures ∙ ap unsigned (kept (valueAt (values (c .before .before)) 0) (c .before .unsigned-arg .given))
 
 slice-aggregate-line : tie.Need-slice-aggregate-line
 slice-aggregate-line c = search needs
@@ -52,7 +52,7 @@ returns : tie.Need-returns
 returns c =
     let a = c .before .before .before .before .before .before .args in
     let called = c .before .before .before .line in
-    row-malformed (a .position) (drop (a .at) (a .text .now)) (called .ensures .0 ∙ ap (readTo (a .text .now) (take 3 (called .last .1 .1 .1 .0))) (c .enum-told .given .1))
+    position-line-malformed (a .position) (drop (a .at) (a .text .now)) (called .ensures .0 ∙ ap (readTo (a .text .now) (take 3 (called .last .1 .1 .1 .0))) (c .enum-told .given .1))
 
 array-copy-out-unsigned : tie.Need-array-copy-out-unsigned
 array-copy-out-unsigned c = search needs
@@ -80,18 +80,18 @@ returns-2 c =
     let start = c .before .before .before .before .before .before .before in
     let a = start .before .before .before .before .before .before .before .args in
     let zs = values start in
-    let frozen : c .before .before .mask-value .result ≡ maskValue (at zs 1) = c .before .before .mask-value .ensures ∙ ap maskValue (kept (at zs 1) (c .before .before .before .mask-value-arg .given)) in
-    let llr : toZ w16 (ofZ w16 (c .llr-value .result)) ≡ llrValue (at zs 2) =
-    toZ-ofZ {w = w16} (record { sfits = c .llr-value .ok }) ∙ c .llr-value .ensures ∙ ap llrValue (kept (at zs 2) (c .before .llr-value-arg .given)) in
-    row-found (a .position) zs _ _ (read start) ∙ rw (← position (c .before .before .before .before .before), eq-eqb _ _ (c .before .before .before .before .if1 .taken), frozen, llr)
+    let frozen : c .before .before .mask-value .result ≡ maskValue (valueAt zs 1) = c .before .before .mask-value .ensures ∙ ap maskValue (kept (valueAt zs 1) (c .before .before .before .mask-value-arg .given)) in
+    let llr : toZ w16 (ofZ w16 (c .llr-value .result)) ≡ llrValue (valueAt zs 2) =
+    toZ-ofZ {w = w16} (record { sfits = c .llr-value .ok }) ∙ c .llr-value .ensures ∙ ap llrValue (kept (valueAt zs 2) (c .before .llr-value-arg .given)) in
+    position-line-found (a .position) zs _ _ (read start) ∙ rw (← position (c .before .before .before .before .before), eq-eqb _ _ (c .before .before .before .before .if1 .taken), frozen, llr)
 
 returns-3 : tie.Need-returns-3
 returns-3 c =
     let start = c .before .before .before in
-    row-found (start .before .before .before .before .before .before .before .args .position) (values start) _ _ (read start) ∙ rw (← position (c .before), ne-eqb _ _ (c .if1 .left))
+    position-line-found (start .before .before .before .before .before .before .before .args .position) (values start) _ _ (read start) ∙ rw (← position (c .before), ne-eqb _ _ (c .if1 .left))
 
-pub row-spec : {M : Type 1} → statement M
-row-spec =
+pub position-line-spec : {M : Type 1} → statement M
+position-line-spec =
     tie.close
     (tie.spec
     slice-aggregate-line

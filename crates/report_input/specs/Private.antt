@@ -5,7 +5,7 @@ use lib.IntN.{ℤ}
 use lib.ListN.{drop, take}
 use Rattle.settings.specs.declared.Settings.{Settings}
 use Rattle.scan.specs.Reading.{Reading, found, malformed}
-use Rattle.report_input.specs.Input.{Row, Block, Meaning, refused, block}
+use Rattle.report_input.specs.Input.{PositionInput, Block, blockOf, Meaning, refused, block}
 use Rattle.report_input.specs.declared.Head.{Head}
 use Rattle.report_input.specs.declared.Head.the-variants as head
 use Rattle.report_input.specs.declared.Position.{Position}
@@ -15,15 +15,15 @@ abbrev pub headRead : List ℕ → Head → Reading Settings
 headRead t (head.Found s next) = found s (drop next t)
 headRead t head.Malformed = malformed
 
-abbrev pub rowRead : List ℕ → Position → Reading Row
-rowRead t (position.Found f l next) = found (record { frozen = f; llr = l }) (drop next t)
-rowRead t position.Malformed = malformed
+abbrev pub positionRead : List ℕ → Position → Reading PositionInput
+positionRead t (position.Found f l next) = found (record { frozen = f; llr = l }) (drop next t)
+positionRead t position.Malformed = malformed
 
 -- the first n elements
-abbrev pub blockOf : ℕ → List ℕ → List ℤ → Block
-blockOf n mask llr = record { mask = take n mask; llr = take n llr }
+abbrev pub firstOf : ℕ → List ℕ → List ℤ → Block
+firstOf n mask llr = blockOf (take n mask) (take n llr)
 
 -- 0 for a block
 abbrev pub numberIn : Meaning → ℕ
 numberIn (refused number) = number
-numberIn (block s mask llr) = 0
+numberIn (block s b) = 0

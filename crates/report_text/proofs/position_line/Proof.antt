@@ -1,26 +1,26 @@
--- `row` meets its contract.
+-- `position_line` meets its contract.
 use mathlib.Core.Path.{_≡_, sym, ap, subst}
 use mathlib.Core.List.{List}
 use native.Mathlib.Omega.{arith}
 use lib.IntN.{ℤ}
 use Rattle.format.specs.Decimal.{line}
 use Rattle.format.specs.Wrote.{Wrote}
-use Rattle.report_text.specs.Working.{row}
+use Rattle.report_text.specs.Report.{positionValues}
 use Rattle.format.proofs.Values.{widened-fits}
-use Rattle.report_text.proofs.Values.{widenedRow, row-widened}
+use Rattle.report_text.proofs.Values.{widenedValues, values-widened}
 use borrow.Author.Needs.{needs}
-use Rattle.report_text.proofs.row.Statement.{statement}
-use Rattle.report_text.proofs.row.Tie as tie
-use Rattle.report_text.proofs.row.Reads as reads
-use Rattle.report_text.proofs.row.Lts as lts
+use Rattle.report_text.proofs.position_line.Statement.{statement}
+use Rattle.report_text.proofs.position_line.Tie as tie
+use Rattle.report_text.proofs.position_line.Reads as reads
+use Rattle.report_text.proofs.position_line.Lts as lts
 use Rattle.format.proofs.line.Reads as line-reads
 
 values : (s : tie.Start) →
     let a = s .args in
-    widenedRow (a .position) (a .soft) (a .mark) (a .coded-soft) (a .coded-mark) ≡ row (a .position) (a .soft) (a .mark) (a .coded-soft) (a .coded-mark)
+    widenedValues (a .position) (a .soft) (a .mark) (a .coded-soft) (a .coded-mark) ≡ positionValues (a .position) (a .soft) (a .mark) (a .coded-soft) (a .coded-mark)
 values s =
     let a = s .args in
-    row-widened (a .position) (a .soft) (a .mark) (a .coded-soft) (a .coded-mark)
+    values-widened (a .position) (a .soft) (a .mark) (a .coded-soft) (a .coded-mark)
     (omega (arith, s .pre .0)) (s .fits .soft) (omega (arith, s .fits .mark)) (s .fits .coded-soft) (omega (arith, s .fits .coded-mark))
 
 cast-t9 : tie.Need-cast-t9
@@ -53,8 +53,8 @@ returns c =
     let called = c .before .before .line in
     subst (λ (zs : List ℤ). Wrote (s .args .out .now) (s .args .at) (line zs) (called .last .0) (called .result)) (values s) (called .ensures)
 
-pub row-spec : {M : Type 1} → statement M
-row-spec =
+pub position-line-spec : {M : Type 1} → statement M
+position-line-spec =
     tie.close
     (tie.spec
     cast-t9

@@ -1,4 +1,4 @@
--- `rows` meets its contract.
+-- `position_lines` meets its contract.
 use Prim.Native.Nat.{ℕ, _+_, _-_, _≤_, _<_}
 use mathlib.Core.Path.{_≡_, refl, sym, ap, _∙_}
 use native.Mathlib.Omega.{arith}
@@ -9,14 +9,14 @@ use mir.Val.{toZ, ofZ}
 use mir.Facts.{toZ-ofZ}
 use Rattle.scan.specs.Reading.{found}
 use lib.Seq.{drop-set-lt}
-use Rattle.report_input.specs.Input.{rows}
-use Rattle.report_input.specs.InputLaws.{prefixed, prefixed-empty, rows-turn, rows-stop, rows-end}
-use Rattle.report_input.specs.Answers.{rowRead}
-use Rattle.report_input.proofs.rows.Statement.{statement}
-use Rattle.report_input.proofs.rows.Tie as tie
-use Rattle.report_input.proofs.rows.Reads as reads
-use Rattle.report_input.proofs.rows.Lts as lts
-use Rattle.report_input.proofs.row.Reads as row-reads
+use Rattle.report_input.specs.Input.{positionLines}
+use Rattle.report_input.specs.InputLaws.{prefixed, prefixed-empty, position-lines-next, position-lines-stop, position-lines-end}
+use Rattle.report_input.specs.Private.{positionRead}
+use Rattle.report_input.proofs.position_lines.Statement.{statement}
+use Rattle.report_input.proofs.position_lines.Tie as tie
+use Rattle.report_input.proofs.position_lines.Reads as reads
+use Rattle.report_input.proofs.position_lines.Lts as lts
+use Rattle.report_input.proofs.position_line.Reads as position-line-reads
 
 abbrev Inv-loop : tie.InvT-loop
 Inv-loop text at n mask₀ llr₀ i₀ next₀ mask llr i next =
@@ -25,7 +25,7 @@ Inv-loop text at n mask₀ llr₀ i₀ next₀ mask llr i next =
     × (length llr ≡ length llr₀)
     × (drop n mask ≡ drop n mask₀)
     × (drop n llr ≡ drop n llr₀)
-    × (rows n 0 (drop at text) ≡ prefixed (take i mask) (take i llr) (rows (n - i) i (drop next text)))
+    × (positionLines n 0 (drop at text) ≡ prefixed (take i mask) (take i llr) (positionLines (n - i) i (drop next text)))
 
 abbrev μ-loop : tie.MeasureT-loop
 μ-loop text at n mask₀ llr₀ i₀ next₀ mask llr i next = n - i
@@ -33,12 +33,12 @@ abbrev μ-loop : tie.MeasureT-loop
 loop-holds : tie.Need-loop-holds Inv-loop μ-loop
 loop-holds c =
     let a = c .before .before .args in
-    let none : rows (a .n - 0) 0 (drop (a .at) (a .text .now)) ≡ rows (a .n) 0 (drop (a .at) (a .text .now)) =
-    ap (λ (k : ℕ). rows k 0 (drop (a .at) (a .text .now))) (omega arith) in
-    (omega arith, refl, refl, refl, refl, sym (prefixed-empty (rows (a .n - 0) 0 (drop (a .at) (a .text .now))) ∙ none))
+    let none : positionLines (a .n - 0) 0 (drop (a .at) (a .text .now)) ≡ positionLines (a .n) 0 (drop (a .at) (a .text .now)) =
+    ap (λ (k : ℕ). positionLines k 0 (drop (a .at) (a .text .now))) (omega arith) in
+    (omega arith, refl, refl, refl, refl, sym (prefixed-empty (positionLines (a .n - 0) 0 (drop (a .at) (a .text .now))) ∙ none))
 
-row-requires : tie.Need-row-requires Inv-loop μ-loop
-row-requires c κs = search needs
+position-line-requires : tie.Need-position-line-requires Inv-loop μ-loop
+position-line-requires c κs = search needs
 
 enum-known-position : tie.Need-enum-known-position Inv-loop μ-loop
 enum-known-position c = search needs
@@ -56,8 +56,8 @@ returns : tie.Need-returns Inv-loop μ-loop
 returns c =
     let a = c .before .before .before .before .before .before .before .args in
     let at = c .before .before .before .before .loop in
-    let called = c .before .before .row .ensures ∙ ap (rowRead (a .text .now)) (c .enum-told .given .1) in
-    (at .inv .5 ∙ rows-stop (a .n) (at .i) (take (at .i) (at .mask)) (take (at .i) (at .llr)) (drop (at .next) (a .text .now)) (omega arith) called, (at .inv .3, at .inv .4))
+    let called = c .before .before .position-line .ensures ∙ ap (positionRead (a .text .now)) (c .enum-told .given .1) in
+    (at .inv .5 ∙ position-lines-stop (a .n) (at .i) (take (at .i) (at .mask)) (take (at .i) (at .llr)) (drop (at .next) (a .text .now)) (omega arith) called, (at .inv .3, at .inv .4))
 
 slice-write-mask : tie.Need-slice-write-mask Inv-loop μ-loop
 slice-write-mask c = omega arith
@@ -80,7 +80,7 @@ loop-again c =
     let at = c .before .before .before .before .before .loop in
     let frozen = c .before .position .given .0 .0 in
     let llr = c .before .position .given .0 .1 .0 in
-    let called = c .before .before .before .row .ensures ∙ ap (rowRead (a .text .now)) (c .before .position .given .1) in
+    let called = c .before .before .before .position-line .ensures ∙ ap (positionRead (a .text .now)) (c .before .position .given .1) in
     let held : toZ w16 (ofZ w16 llr) ≡ llr = toZ-ofZ {w = w16} (record { sfits = c .known-told .given .1 .0 .1 }) in
     rw held (
       omega arith,
@@ -89,7 +89,7 @@ loop-again c =
       drop-set-lt (a .n) (at .mask) (at .i) frozen (omega arith) ∙ at .inv .3,
       drop-set-lt (a .n) (at .llr) (at .i) llr (omega arith) ∙ at .inv .4,
       at .inv .5
-          ∙ rows-turn (a .n) (at .i) (at .mask) (at .llr) (drop (at .next) (a .text .now)) _ (record { frozen = frozen; llr = llr })
+          ∙ position-lines-next (a .n) (at .i) (at .mask) (at .llr) (drop (at .next) (a .text .now)) _ (record { frozen = frozen; llr = llr })
           (omega arith) (omega arith) (omega arith) called,
     )
 
@@ -105,19 +105,19 @@ returns-2 c =
     let at = c .before .loop in
     let all : at .i ≡ a .n = omega arith in
     let rest = drop (at .next) (a .text .now) in
-    let last : prefixed (take (at .i) (at .mask)) (take (at .i) (at .llr)) (rows (a .n - at .i) (at .i) rest)
+    let last : prefixed (take (at .i) (at .mask)) (take (at .i) (at .llr)) (positionLines (a .n - at .i) (at .i) rest)
     ≡ found (record { mask = take (a .n) (at .mask); llr = take (a .n) (at .llr) }) rest =
-    rw all (rows-end (a .n) (take (a .n) (at .mask)) (take (a .n) (at .llr)) rest) in
+    rw all (position-lines-end (a .n) (take (a .n) (at .mask)) (take (a .n) (at .llr)) rest) in
     (at .inv .5 ∙ last, (at .inv .3, at .inv .4))
 
-pub rows-spec : {M : Type 1} → statement M
-rows-spec =
+pub position-lines-spec : {M : Type 1} → statement M
+position-lines-spec =
     tie.close
     (tie.spec
     Inv-loop
     μ-loop
     loop-holds
-    row-requires
+    position-line-requires
     enum-known-position
     enum-told
     same-length

@@ -1,4 +1,4 @@
--- What private functions write: the line of given values, and of the values that slices hold. Definitions only.
+-- For the contracts of private functions: the values that slices hold, and the first lines. Definitions only.
 use Prim.Native.Nat.{ℕ, _≤_}
 use mathlib.Core.Path.{_≡_}
 use mathlib.Core.List.{List, [], _∷_, _++_}
@@ -10,15 +10,12 @@ use Rattle.calls.specs.Texts.{bytes}
 use Rattle.format.specs.Decimal.{line}
 use Rattle.report_text.specs.Report.{outputs}
 
-abbrev pub row : ℕ → ℤ → ℕ → ℤ → ℕ → List ℤ
-row p soft mark codedSoft codedMark = pos p ∷ soft ∷ pos mark ∷ codedSoft ∷ pos codedMark ∷ []
-
-abbrev pub held : List ℤ → List ℕ → List ℤ → List ℕ → ℕ → List ℤ
-held soft mark codedSoft codedMark =
+abbrev pub sliceValues : List ℤ → List ℕ → List ℤ → List ℕ → ℕ → List ℤ
+sliceValues soft mark codedSoft codedMark =
     outputs (λ i. getD soft i (pos 0)) (λ i. getD mark i 0) (λ i. getD codedSoft i (pos 0)) (λ i. getD codedMark i 0)
 
-abbrev pub ending : ℕ → Reason → Ending
-ending iterations reason = record { iteration = iterations; reason = reasonNumber reason }
+abbrev pub endingOf : ℕ → Reason → Ending
+endingOf iterations reason = record { iteration = iterations; reason = reasonNumber reason }
 
 abbrev pub headingText : Ending → List ℕ
 headingText e =
