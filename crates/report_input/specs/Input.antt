@@ -1,5 +1,5 @@
 -- Document 01, "The report's text": what an input means, in the order of the section's sentences. Definitions only.
-use Prim.Native.Nat.{ℕ, zero, suc, _^_, min}
+use Prim.Native.Nat.{ℕ, zero, suc, _+_, _*_, _^_, min}
 use mathlib.Core.Path.{_≡_}
 use mathlib.Core.Bool.{Bool, true, false, cond}
 use mathlib.Core.List.{List, [], _∷_, _++_}
@@ -27,12 +27,12 @@ longestText = 32768
 abbrev pub outsideRanges : ℕ
 outsideRanges = 1000000
 
--- the positions of the largest block, m = 10, and the elements of its workspace, 2 * (m + 1) * 2 ^ m
+-- the positions of the largest block, m = 10, and the elements of its workspace: 1,024 and 22,528
 abbrev pub mostPositions : ℕ
-mostPositions = 1024
+mostPositions = 2 ^ 10
 
 abbrev pub mostWorkspace : ℕ
-mostWorkspace = 22528
+mostWorkspace = 2 * (10 + 1) * 2 ^ 10
 
 -- ---- the first three lines
 

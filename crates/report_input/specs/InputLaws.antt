@@ -271,15 +271,14 @@ replaced n old new values long first behind =
 
 pub read-accepted : (s : Settings) (t u : List ℕ) (n : ℕ) (r : Next) {old new : Block}
     → 0 ≡ numberIn (tested s (positionLines (2 ^ s .m) 0 u)) → n ≡ 2 ^ s .m
-    → positionLines n 0 u ≡ readTo t (firstOf n (new .mask) (new .llr)) r
+    → positionLines n 0 u ≡ readTo t (firstOf n new) r
     → drop n (new .mask) ≡ drop n (old .mask) → drop n (new .llr) ≡ drop n (old .llr)
     → InputRead (tested s (positionLines (2 ^ s .m) 0 u)) old new (Accepted s)
 read-accepted s t u n r {old} {new} none size seen mask-behind llr-behind =
     let whole = accepted-block s (positionLines (2 ^ s .m) 0 u) none in
     let same : positionLines n 0 u ≡ positionLines (2 ^ s .m) 0 u = ap (λ (k : ℕ). positionLines k 0 u) size in
     let long = subst (Each (Long n)) (same ∙ whole .read) (position-lines-long n 0 u) in
-    let first = firstOf n (new .mask) (new .llr) in
-    let b : first ≡ whole .b = read-found t first (whole .b) [] r (sym seen ∙ same ∙ whole .read) in
+    let b : firstOf n new ≡ whole .b = read-found t (firstOf n new) (whole .b) [] r (sym seen ∙ same ∙ whole .read) in
     let mask-is = replaced n (old .mask) (new .mask) (whole .b .mask) (long .mask-long) (ap (λ (x : Block). x .mask) b)
     mask-behind in
     let llr-is = replaced n (old .llr) (new .llr) (whole .b .llr) (long .llr-long) (ap (λ (x : Block). x .llr) b)

@@ -20,8 +20,8 @@ positionRead t (position.Found f l next) = found (record { frozen = f; llr = l }
 positionRead t position.Malformed = malformed
 
 -- the first n elements
-abbrev pub firstOf : ℕ → List ℕ → List ℤ → Block
-firstOf n mask llr = blockOf (take n mask) (take n llr)
+abbrev pub firstOf : ℕ → Block → Block
+firstOf n b = blockOf (take n (b .mask)) (take n (b .llr))
 
 -- 0 for a block
 abbrev pub numberIn : Meaning → ℕ

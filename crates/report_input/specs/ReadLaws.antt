@@ -36,7 +36,7 @@ pub record AcceptedText (means : Meaning) (s : Settings) (b : Block) : Type 0 wh
 
 module _ {old new : Block} {r : Input} where
   of-accepted : (means : Meaning) (s : Settings) (n : ℕ) → Means means → InputRead means old new r → r ≡ Accepted s
-      → n ≡ 2 ^ s .m → AcceptedText means s (firstOf n (new .mask) (new .llr))
+      → n ≡ 2 ^ s .m → AcceptedText means s (firstOf n new)
   of-accepted (refused number) s n fit read e size =
       absurd (true≢false (ap isAccepted (sym (ap answerOf e) ∙ read .answer)))
   of-accepted (block s′ b) s n fit read e size =
@@ -66,7 +66,7 @@ module _ {old new : Block} {r : Input} where
       absurd (true≢false (ap isAccepted (sym (read .answer) ∙ ap answerOf e)))
 
   pub accepted-text : (t : List ℕ) {s : Settings} {n : ℕ} → InputRead (meaning t) old new r → r ≡ Accepted s
-      → n ≡ 2 ^ s .m → AcceptedText (meaning t) s (firstOf n (new .mask) (new .llr))
+      → n ≡ 2 ^ s .m → AcceptedText (meaning t) s (firstOf n new)
   accepted-text t {s} {n} read e size = of-accepted (meaning t) s n (meaning-fit t) read e size
 
   pub refused-text : (t : List ℕ) {refusal : Refusal} → InputRead (meaning t) old new r → r ≡ Refused refusal

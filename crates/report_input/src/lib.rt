@@ -146,7 +146,7 @@ fn position_line(text: &[u8], at: usize, position: usize) -> Position
 fn position_lines(text: &[u8], at: usize, n: usize, mask: &mut [u8], llr: &mut [i16]) -> Next
     requires { ⌜ (n ≤ length (now mask)) × (n ≤ length (now llr)) ⌝ }
     ensures { λ r. ⌜ positionLines n 0 (drop at (now (text .entry)))
-        ≡ readTo (now (text .entry)) (firstOf n (now (mask .exit)) (now (llr .exit))) r ⌝ }
+        ≡ readTo (now (text .entry)) (firstOf n (blockOf (now (mask .exit)) (now (llr .exit)))) r ⌝ }
     ensures { λ _. ⌜ drop n (now (mask .exit)) ≡ drop n (now (mask .entry)) ⌝ }
     ensures { λ _. ⌜ drop n (now (llr .exit)) ≡ drop n (now (llr .entry)) ⌝ }
 {

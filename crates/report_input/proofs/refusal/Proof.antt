@@ -7,7 +7,7 @@ use lib.Pow.{pow-mono}
 use lib.Seq.{length-take-le}
 use Rattle.scan.specs.Reading.{found}
 use Rattle.scan.specs.Answers.{readTo}
-use Rattle.report_input.specs.Input.{Block, positionLines}
+use Rattle.report_input.specs.Input.{Block, blockOf, positionLines}
 use Rattle.report_input.specs.InputLaws.{lines-malformed, lines-followed, lines-number}
 use Rattle.report_input.specs.Private.{firstOf}
 use borrow.Author.Needs.{needs}
@@ -24,7 +24,9 @@ small c = rw (c .power-of-two .ensures) (pow-mono (c .before .before .pre .1))
 
 -- what the call of `position_lines` read
 abbrev block : tie.After-position-lines → Block
-block c = firstOf (c .before .before .before .power-of-two .result) (c .position-lines .last .1 .1 .1 .0) (c .position-lines .last .1 .1 .1 .1 .0)
+block c =
+    let read = c .position-lines .last .1 .1 .1 in
+    firstOf (c .before .before .before .power-of-two .result) (blockOf (read .0) (read .1 .0))
 
 read : (c : tie.After-position-lines) →
     let s = c .before .before .before .before .before in
