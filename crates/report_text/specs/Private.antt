@@ -23,6 +23,7 @@ headingText e =
     ++ line (pos (e .iteration) ∷ pos (e .reason) ∷ [])
     ++ bytes "position soft mark coded codedmark\n"
 
--- n counts elements at the start of a list. The second part follows from the first; stated, it spares a caller that lends them a proof
+-- n counts elements at the start of a list. The second part follows from the first; stated, it spares a caller that
+-- lends them a proof
 abbrev pub Within : ℕ → List ℕ → Type 0
 Within n l = (n ≤ length l) × (n ≡ length (take n l))

@@ -1,4 +1,5 @@
--- Document 01, "The report's text": the output, and the report as a whole, from the bytes of a text to bytes. Definitions only.
+-- Document 01, "The report's text": the output, and the report as a whole, from the bytes of a text to bytes.
+-- Definitions only.
 use Prim.Native.Nat.{ℕ, zero, suc, _^_}
 use mathlib.Core.List.{List, [], _∷_, _++_}
 use lib.IntN.{ℤ, pos}
@@ -7,7 +8,11 @@ use Rattle.settings.specs.declared.Settings.{Settings}
 use Rattle.decoder.specs.Decoder.{Ending, ending, final, softAt, markAt, codedSoftAt, codedMarkAt}
 use Rattle.calls.specs.Texts.{bytes}
 use Rattle.format.specs.Decimal.{line}
-use Rattle.report_input.specs.Input.{Meaning, refused, block, meaning}
+use Rattle.report_input.specs.Input.{mostWorkspace, Block, Meaning, refused, block, meaning}
+
+-- the room that is enough for every output
+abbrev pub reportRoom : ℕ
+reportRoom = 32768
 
 -- ---- a refusal: `refused`, then the number on its own line
 
@@ -41,18 +46,19 @@ abbrev pub outputsOf : Settings → List ℤ → ℕ → List ℤ
 outputsOf s w = outputs (softAt s w) (markAt s w) (codedSoftAt s w) (codedMarkAt s w)
 
 -- the outcome of a block in a workspace that held `work`
-abbrev pub blockText : Settings → List ℕ → List ℤ → List ℤ → List ℕ
-blockText s mask llr work = outcomeText (ending s mask llr work) (2 ^ s .m) (outputsOf s (final s mask llr work))
+abbrev pub blockText : Settings → Block → List ℤ → List ℕ
+blockText s b work =
+    outcomeText (ending s (b .mask) (b .llr) work) (2 ^ s .m) (outputsOf s (final s (b .mask) (b .llr) work))
 
 -- ---- the report
 
 -- the workspace that it lends the decoder: room for the largest block, all zeros
 abbrev pub workspace : List ℤ
-workspace = replicate 22528 (pos 0)
+workspace = replicate mostWorkspace (pos 0)
 
 abbrev pub textOf : Meaning → List ℕ
 textOf (refused number) = refusalText number
-textOf (block s mask llr) = blockText s mask llr workspace
+textOf (block s b) = blockText s b workspace
 
 unfoldable pub report : List ℕ → List ℕ
 report text = textOf (meaning text)

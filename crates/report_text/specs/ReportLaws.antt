@@ -23,19 +23,37 @@ use Rattle.decoder.specs.declared.Reason.{Reason}
 use Rattle.decoder.specs.declared.Reason.the-variants.{Criterion, Limit}
 use Rattle.decoder.specs.declared.Outcome.{Outcome}
 use Rattle.decoder.specs.declared.Outcome.the-variants.{Ended, Refused}
-use Rattle.decoder.specs.Decoder.{Result, ended, refused, reasonNumber, ruleOf, softAt, codedSoftAt, markAt, codedMarkAt, Ending, ending, final, resultOf, byNumber, roomOf, Decoded}
+use Rattle.decoder.specs.Decoder.{
+  Result,
+  ended,
+  refused,
+  reasonNumber,
+  ruleOf,
+  softAt,
+  codedSoftAt,
+  markAt,
+  codedMarkAt,
+  Ending,
+  ending,
+  final,
+  resultOf,
+  byNumber,
+  roomOf,
+  Decoded,
+}
 use Rattle.decoder.specs.ResultLaws.{DecoderAnswer, decoder-answer}
 use Rattle.calls.specs.Texts.{bytes}
 use Rattle.format.specs.Decimal.{line}
 use Rattle.format.specs.DecimalLaws.{line-length}
-use Rattle.report_input.specs.Input.{largest}
+use Rattle.report_input.specs.Input.{mostPositions, mostWorkspace, Block, largest}
 use Rattle.report_input.specs.InputLaws.{Fit}
 use Rattle.report_text.specs.Report.{positionLines, outputsOf, outcomeText, blockText}
 use Rattle.report_text.specs.Private.{sliceValues, endingOf, headingText}
 
 -- ---- the lines of the positions, one by one
 
-pub position-lines-next : (values : ℕ → List ℤ) (n i : ℕ) → i < n → positionLines values (n - i) i ≡ line (values i) ++ positionLines values (n - (i + 1)) (i + 1)
+pub position-lines-next : (values : ℕ → List ℤ) (n i : ℕ) → i < n
+    → positionLines values (n - i) i ≡ line (values i) ++ positionLines values (n - (i + 1)) (i + 1)
 unfolding positionLines
 position-lines-next values n i h = let left : n - i ≡ suc (n - suc i) = omega arith in rw (left, add-one i)
 
@@ -44,7 +62,9 @@ unfolding positionLines
 position-lines-end values n = let left : n - n ≡ 0 = omega arith in rw left
 
 -- only the values of the positions count
-pub position-lines-same : (values values′ : ℕ → List ℤ) (n p : ℕ) → ((i : ℕ) → p ≤ i → i < p + n → values i ≡ values′ i) → positionLines values n p ≡ positionLines values′ n p
+pub position-lines-same : (values values′ : ℕ → List ℤ) (n p : ℕ)
+    → ((i : ℕ) → p ≤ i → i < p + n → values i ≡ values′ i)
+    → positionLines values n p ≡ positionLines values′ n p
 unfolding positionLines
 position-lines-same values values′ zero p same = refl
 position-lines-same values values′ (suc n) p same =
@@ -57,14 +77,22 @@ pub reason-le : (r : Reason) → reasonNumber r ≤ 2
 reason-le Criterion = lit≤ tt
 reason-le Limit = lit≤ tt
 
-pub position-lines-room : (values : ℕ → List ℤ) (n p : ℕ) → ((i : ℕ) → p ≤ i → i < p + n → length (line (values i)) ≤ 30) → length (positionLines values n p) ≤ 30 * n
+pub position-lines-room : (values : ℕ → List ℤ) (n p : ℕ)
+    → ((i : ℕ) → p ≤ i → i < p + n → length (line (values i)) ≤ 30)
+    → length (positionLines values n p) ≤ 30 * n
 unfolding positionLines
 position-lines-room values zero p short = omega arith
 position-lines-room values (suc n) p short =
     let rest = position-lines-room values n (suc p) (λ i l h. short i (omega arith) (omega arith)) in
-    omega (arith, rest, short p (omega arith) (omega arith), length-append (line (values p)) (positionLines values n (suc p)))
+    omega (
+      arith,
+      rest,
+      short p (omega arith) (omega arith),
+      length-append (line (values p)) (positionLines values n (suc p)),
+    )
 
-pub outputs-short : (s : Settings) (w : List ℤ) (i : ℕ) → s .ceiling ≤ 2047 → i < 1024 → length (line (outputsOf s w i)) ≤ 30
+pub outputs-short : (s : Settings) (w : List ℤ) (i : ℕ) → s .ceiling ≤ 2047 → i < mostPositions
+    → length (line (outputsOf s w i)) ≤ 30
 outputs-short s w i C h =
     line-length (outputsOf s w i) (omega (
       arith,
@@ -77,53 +105,79 @@ outputs-short s w i C h =
 pub heading-room : (e : Ending) → e .iteration ≤ 9999 → e .reason ≤ 9999 → length (headingText e) ≤ 65
 heading-room e h k =
     let values = pos (e .iteration) ∷ pos (e .reason) ∷ [] in
-    omega (arith, line-length values (omega arith), length-append (line values) (bytes "position soft mark coded codedmark\n"))
+    omega (
+      arith,
+      line-length values (omega arith),
+      length-append (line values) (bytes "position soft mark coded codedmark\n"),
+    )
 
 -- ---- what the decoder leaves for an accepted block
 
-pub fit-length : {s : Settings} {mask : List ℕ} {llr : List ℤ} → Fit s mask llr → s .m ≤ 10
-fit-length {s} {mask} {llr} fit = accepted s mask llr largest (fit .number) .m-le
+pub fit-length : {s : Settings} {block : Block} → Fit s block → s .m ≤ 10
+fit-length {s} {block} fit = accepted s (block .mask) (block .llr) largest (fit .number) .m-le
 
-pub record DecodedBlock (s : Settings) (mask : List ℕ) (llr work soft : List ℤ) (mark : List ℕ) (codedSoft : List ℤ) (codedMark : List ℕ) (r : Outcome) : Type 0 where
-  pub answer : resultOf r ≡ ended (ending s mask llr work .iteration) (ending s mask llr work .reason)
-  pub iteration-le : ending s mask llr work .iteration ≤ 200
-  pub values : (i : ℕ) → i < 2 ^ s .m → sliceValues soft mark codedSoft codedMark i ≡ outputsOf s (final s mask llr work) i
-  pub size : 2 ^ s .m ≤ 1024
+-- how the decoder ends, and its workspace then
+abbrev endingOn : Settings → Block → List ℤ → Ending
+endingOn s block work = ending s (block .mask) (block .llr) work
+
+abbrev finalOn : Settings → Block → List ℤ → List ℤ
+finalOn s block work = final s (block .mask) (block .llr) work
+
+pub record DecodedBlock
+    (s : Settings) (block : Block) (work soft : List ℤ) (mark : List ℕ) (codedSoft : List ℤ) (codedMark : List ℕ)
+    (r : Outcome) : Type 0 where
+  pub answer : resultOf r ≡ ended (endingOn s block work .iteration) (endingOn s block work .reason)
+  pub iteration-le : endingOn s block work .iteration ≤ 200
+  pub values : (i : ℕ) → i < 2 ^ s .m
+      → sliceValues soft mark codedSoft codedMark i ≡ outputsOf s (finalOn s block work) i
+  pub size : 2 ^ s .m ≤ mostPositions
   pub ceiling-le : s .ceiling ≤ 2047
 
-pub decoded-block : {s : Settings} {mask : List ℕ} {llr soft : List ℤ} {mark : List ℕ} {codedSoft : List ℤ} {codedMark : List ℕ} {work soft′ : List ℤ}
-    {mark′ : List ℕ} {codedSoft′ : List ℤ} {codedMark′ : List ℕ} {work′ : List ℤ} {r : Outcome}
-    → Fit s mask llr
-    → Decoded s mask llr soft mark codedSoft codedMark work soft′ mark′ codedSoft′ codedMark′ work′ r
-    → length soft ≡ 1024 → length mark ≡ 1024 → length codedSoft ≡ 1024 → length codedMark ≡ 1024 → length work ≡ 22528
-    → DecodedBlock s mask llr work soft′ mark′ codedSoft′ codedMark′ r
-decoded-block {s} {mask} {llr} {soft} {mark} {codedSoft} {codedMark} {work} fit d soft-long mark-long coded-soft-long coded-mark-long work-long =
-    let number : decodeNumber s mask llr (roomOf soft mark codedSoft codedMark work) ≡ 0 =
+pub decoded-block : {s : Settings} {block : Block} {soft : List ℤ} {mark : List ℕ} {codedSoft : List ℤ}
+    {codedMark : List ℕ} {work soft′ : List ℤ} {mark′ : List ℕ} {codedSoft′ : List ℤ} {codedMark′ : List ℕ}
+    {work′ : List ℤ} {r : Outcome}
+    → Fit s block
+    → Decoded s (block .mask) (block .llr) soft mark codedSoft codedMark work soft′ mark′ codedSoft′ codedMark′ work′ r
+    → length soft ≡ mostPositions → length mark ≡ mostPositions
+    → length codedSoft ≡ mostPositions → length codedMark ≡ mostPositions
+    → length work ≡ mostWorkspace
+    → DecodedBlock s block work soft′ mark′ codedSoft′ codedMark′ r
+decoded-block {s} {block} {soft} {mark} {codedSoft} {codedMark} {work} fit d soft-long mark-long coded-soft-long
+    coded-mark-long work-long =
+    let number : decodeNumber s (block .mask) (block .llr) (roomOf soft mark codedSoft codedMark work) ≡ 0 =
     rw (soft-long, mark-long, coded-soft-long, coded-mark-long, work-long) (fit .number) in
-    let ok = accepted s mask llr largest (fit .number) in
+    let ok = accepted s (block .mask) (block .llr) largest (fit .number) in
     let size : 2 ^ s .m ≤ 2 ^ 10 = pow-mono (ok .m-le) in
     let N = 2 ^ s .m in
-    let w = final s mask llr work in
-    let answer = d .answer ∙ ap (λ (n : ℕ). byNumber n (ending s mask llr work)) number in
+    let w = finalOn s block work in
+    let e = endingOn s block work in
+    let ends = subst DecoderAnswer (ap (λ (n : ℕ). byNumber n e) (fit .number))
+    (decoder-answer s (block .mask) (block .llr) largest work) in
     record {
-      answer = answer;
-      iteration-le = subst DecoderAnswer (ap (λ (n : ℕ). byNumber n (ending s mask llr work)) (fit .number)) (decoder-answer s mask llr largest work) .1;
+      answer = d .answer ∙ ap (λ (n : ℕ). byNumber n e) number;
+      iteration-le = ends .1;
       values = λ i h. rw (
-        ap (λ (l : List ℤ). getD l i (pos 0)) (d .soft-is ∙ ap (λ (n : ℕ). unlessRefused n (overwrite N (softAt s w) soft) soft) number)
+        ap (λ (l : List ℤ). getD l i (pos 0))
+            (d .soft-is ∙ ap (λ (n : ℕ). unlessRefused n (overwrite N (softAt s w) soft) soft) number)
             ∙ overwrite-at N (softAt s w) soft i (pos 0) h (omega arith),
-        ap (λ (l : List ℕ). getD l i 0) (d .mark-is ∙ ap (λ (n : ℕ). unlessRefused n (overwrite N (markAt s w) mark) mark) number)
+        ap (λ (l : List ℕ). getD l i 0)
+            (d .mark-is ∙ ap (λ (n : ℕ). unlessRefused n (overwrite N (markAt s w) mark) mark) number)
             ∙ overwrite-at N (markAt s w) mark i 0 h (omega arith),
-        ap (λ (l : List ℤ). getD l i (pos 0)) (d .coded-soft-is ∙ ap (λ (n : ℕ). unlessRefused n (overwrite N (codedSoftAt s w) codedSoft) codedSoft) number)
+        ap (λ (l : List ℤ). getD l i (pos 0))
+            (d .coded-soft-is
+            ∙ ap (λ (n : ℕ). unlessRefused n (overwrite N (codedSoftAt s w) codedSoft) codedSoft) number)
             ∙ overwrite-at N (codedSoftAt s w) codedSoft i (pos 0) h (omega arith),
-        ap (λ (l : List ℕ). getD l i 0) (d .coded-mark-is ∙ ap (λ (n : ℕ). unlessRefused n (overwrite N (codedMarkAt s w) codedMark) codedMark) number)
+        ap (λ (l : List ℕ). getD l i 0)
+            (d .coded-mark-is
+            ∙ ap (λ (n : ℕ). unlessRefused n (overwrite N (codedMarkAt s w) codedMark) codedMark) number)
             ∙ overwrite-at N (codedMarkAt s w) codedMark i 0 h (omega arith),
       );
       size = size;
       ceiling-le = ok .ceiling-le;
     }
 
-module _ {s : Settings} {mask : List ℕ} {llr work soft : List ℤ} {mark : List ℕ} {codedSoft : List ℤ} {codedMark : List ℕ} {r : Outcome}
-    (b : DecodedBlock s mask llr work soft mark codedSoft codedMark r) where
+module _ {s : Settings} {block : Block} {work soft : List ℤ} {mark : List ℕ} {codedSoft : List ℤ} {codedMark : List ℕ}
+    {r : Outcome} (b : DecodedBlock s block work soft mark codedSoft codedMark r) where
   -- it isn't refused
   pub not-refused : (refusal : Refusal) → r ≡ Refused refusal → ⊥
   not-refused refusal e = true≢false (ap isRefusal (sym (ap resultOf e) ∙ b .answer))
@@ -133,7 +187,7 @@ module _ {s : Settings} {mask : List ℕ} {llr work soft : List ℤ} {mark : Lis
       isRefusal (ended t reason) = false
 
   -- its ending is the decoder's
-  pub ending-is : (t : ℕ) (reason : Reason) → r ≡ Ended t reason → endingOf t reason ≡ ending s mask llr work
+  pub ending-is : (t : ℕ) (reason : Reason) → r ≡ Ended t reason → endingOf t reason ≡ endingOn s block work
   ending-is t reason e = ap endingIn (sym (ap resultOf e) ∙ b .answer)
     where
       endingIn : Result → Ending
@@ -144,16 +198,20 @@ module _ {s : Settings} {mask : List ℕ} {llr work soft : List ℤ} {mark : Lis
   iterations-short t reason e = omega (arith, b .iteration-le, ap (λ (e : Ending). e .iteration) (ending-is t reason e))
 
   -- its lines have room, and are those of the definition
-  pub block-room : (n : ℕ) → n ≡ 2 ^ s .m → length (positionLines (sliceValues soft mark codedSoft codedMark) n 0) ≤ 30 * n
+  abbrev held : ℕ → List ℤ
+  held = sliceValues soft mark codedSoft codedMark
+
+  pub block-room : (n : ℕ) → n ≡ 2 ^ s .m → length (positionLines held n 0) ≤ 30 * n
   block-room n e =
-      position-lines-room (sliceValues soft mark codedSoft codedMark) n 0
-      (λ i l h. rw (b .values i (omega arith)) (outputs-short s (final s mask llr work) i (b .ceiling-le) (omega (arith, b .size))))
+      position-lines-room held n 0 (λ i l h.
+      rw (b .values i (omega arith))
+      (outputs-short s (finalOn s block work) i (b .ceiling-le) (omega (arith, b .size))))
 
   pub block-text : (n t : ℕ) (reason : Reason) → n ≡ 2 ^ s .m → r ≡ Ended t reason
-      → outcomeText (endingOf t reason) n (sliceValues soft mark codedSoft codedMark) ≡ blockText s mask llr work
+      → outcomeText (endingOf t reason) n held ≡ blockText s block work
   unfolding outcomeText
   block-text n t reason size e =
-      ap (λ (x : Ending). outcomeText x n (sliceValues soft mark codedSoft codedMark)) (ending-is t reason e)
-      ∙ ap (λ (k : ℕ). outcomeText (ending s mask llr work) k (sliceValues soft mark codedSoft codedMark)) size
-      ∙ ap (λ (l : List ℕ). headingText (ending s mask llr work) ++ l)
-      (position-lines-same (sliceValues soft mark codedSoft codedMark) (outputsOf s (final s mask llr work)) (2 ^ s .m) 0 (λ i l h. b .values i (omega arith)))
+      ap (λ (x : Ending). outcomeText x n held) (ending-is t reason e)
+      ∙ ap (λ (k : ℕ). outcomeText (endingOn s block work) k held) size
+      ∙ ap (λ (l : List ℕ). headingText (endingOn s block work) ++ l)
+      (position-lines-same held (outputsOf s (finalOn s block work)) (2 ^ s .m) 0 (λ i l h. b .values i (omega arith)))

@@ -1,27 +1,35 @@
 // The report: from the bytes of a text to the bytes of its outcome.
-// It sees `report_input`, `decoder` and `format`. It promises the text that document 01 gives, for every byte string, from the first byte of the lent array on, its old
-// contents behind, and the text's length. The array has room for every outcome.
+// It sees `report_input`, `decoder` and `format`. It promises the text that document 01 gives, for every byte string, from
+// the first byte of the lent array on, its old contents behind, and the text's length. The array has room for every
+// outcome.
 ghost use mathlib.Core.Path.{_≡_};
 ghost use Prim.Native.Nat.{_+_, _*_, _≤_, _^_};
 ghost use lib.ListN.{length};
 ghost use Rattle.calls.specs.Numbers.{refusalNumber};
+ghost use Rattle.report_input.specs.Input.{mostPositions, mostWorkspace, blockOf};
 ghost use Rattle.report_input.specs.InputLaws.{Fit};
 ghost use Rattle.format.specs.Decimal.{line};
 ghost use Rattle.format.specs.Wrote.{Wrote};
-ghost use Rattle.report_text.specs.Report.{refusalText, positionValues, positionLines, outcomeText, blockText, report};
+ghost use Rattle.report_text.specs.Report.{reportRoom, refusalText, positionValues, positionLines};
+ghost use Rattle.report_text.specs.Report.{outcomeText, blockText, report};
 ghost use Rattle.report_text.specs.Private.{sliceValues, endingOf, headingText, Within};
 use calls::Answer;
 use calls::Refusal;
 use decoder::Outcome;
 use decoder::Reason;
 use report_input::Input;
+use report_input::MOST_POSITIONS;
+use report_input::MOST_WORKSPACE;
 use settings::Settings;
+
+// The room that is enough for every output.
+pub const REPORT_ROOM: usize = 32768;
 
 // A refusal.
 fn refused(out: &mut [u8], refusal: Refusal) -> usize
-    requires { ⌜ 32768 ≤ length (now out) ⌝ }
+    requires { ⌜ reportRoom ≤ length (now out) ⌝ }
     ensures { λ r. ⌜ Wrote (now (out .entry)) 0 (refusalText (refusalNumber refusal)) (now (out .exit)) r ⌝ }
-    ensures { λ r. ⌜ r ≤ 32768 ⌝ }
+    ensures { λ r. ⌜ r ≤ reportRoom ⌝ }
 {
     let number = calls::number(Answer::Refused(refusal));
     let end = format::copy(out, 0, b"refused\n");
@@ -38,8 +46,10 @@ fn position_line(
     coded_soft: i16,
     coded_mark: u8,
 ) -> usize
-    requires { ⌜ (position ≤ 1024) × (at + length (line (positionValues position soft mark «coded_soft» «coded_mark»)) ≤ length (now out)) ⌝ }
-    ensures { λ r. ⌜ Wrote (now (out .entry)) at (line (positionValues position soft mark «coded_soft» «coded_mark»)) (now (out .exit)) r ⌝ }
+    requires { ⌜ (position ≤ mostPositions)
+        × (at + length (line (positionValues position soft mark «coded_soft» «coded_mark»)) ≤ length (now out)) ⌝ }
+    ensures { λ r. ⌜ Wrote (now (out .entry)) at
+        (line (positionValues position soft mark «coded_soft» «coded_mark»)) (now (out .exit)) r ⌝ }
 {
     let values = [
         position as i32,
@@ -61,9 +71,14 @@ fn position_lines(
     coded_soft: &[i16],
     coded_mark: &[u8],
 ) -> usize
-    requires { ⌜ (n ≤ 1024) × (n ≤ length (now soft)) × (n ≤ length (now mark)) × (n ≤ length (now «coded_soft»)) × (n ≤ length (now «coded_mark»)) ⌝ }
-    requires { ⌜ at + length (positionLines (sliceValues (now soft) (now mark) (now «coded_soft») (now «coded_mark»)) n 0) ≤ length (now out) ⌝ }
-    ensures { λ r. ⌜ Wrote (now (out .entry)) at (positionLines (sliceValues (now (soft .entry)) (now (mark .entry)) (now («coded_soft» .entry)) (now («coded_mark» .entry))) n 0) (now (out .exit)) r ⌝ }
+    requires { ⌜ (n ≤ mostPositions) × (n ≤ length (now soft)) × (n ≤ length (now mark))
+        × (n ≤ length (now «coded_soft»)) × (n ≤ length (now «coded_mark»)) ⌝ }
+    requires { ⌜ at
+        + length (positionLines (sliceValues (now soft) (now mark) (now «coded_soft») (now «coded_mark»)) n 0)
+        ≤ length (now out) ⌝ }
+    ensures { λ r. ⌜ Wrote (now (out .entry)) at
+        (positionLines (sliceValues (now (soft .entry)) (now (mark .entry))
+        (now («coded_soft» .entry)) (now («coded_mark» .entry))) n 0) (now (out .exit)) r ⌝ }
 {
     let mut end = at;
     let mut i: usize = 0;
@@ -96,11 +111,15 @@ fn outcome(
     coded_soft: &[i16],
     coded_mark: &[u8],
 ) -> usize
-    requires { ⌜ (iterations ≤ 9999) × (32768 ≤ length (now out)) ⌝ }
-    requires { ⌜ (n ≤ 1024) × (n ≤ length (now soft)) × (n ≤ length (now mark)) × (n ≤ length (now «coded_soft»)) × (n ≤ length (now «coded_mark»)) ⌝ }
-    requires { ⌜ length (positionLines (sliceValues (now soft) (now mark) (now «coded_soft») (now «coded_mark»)) n 0) ≤ 30 * n ⌝ }
-    ensures { λ r. ⌜ Wrote (now (out .entry)) 0 (outcomeText (endingOf iterations reason) n (sliceValues (now (soft .entry)) (now (mark .entry)) (now («coded_soft» .entry)) (now («coded_mark» .entry)))) (now (out .exit)) r ⌝ }
-    ensures { λ r. ⌜ r ≤ 32768 ⌝ }
+    requires { ⌜ (iterations ≤ 9999) × (reportRoom ≤ length (now out)) ⌝ }
+    requires { ⌜ (n ≤ mostPositions) × (n ≤ length (now soft)) × (n ≤ length (now mark))
+        × (n ≤ length (now «coded_soft»)) × (n ≤ length (now «coded_mark»)) ⌝ }
+    requires { ⌜ length (positionLines (sliceValues (now soft) (now mark) (now «coded_soft») (now «coded_mark»)) n 0)
+        ≤ 30 * n ⌝ }
+    ensures { λ r. ⌜ Wrote (now (out .entry)) 0
+        (outcomeText (endingOf iterations reason) n (sliceValues (now (soft .entry)) (now (mark .entry))
+        (now («coded_soft» .entry)) (now («coded_mark» .entry)))) (now (out .exit)) r ⌝ }
+    ensures { λ r. ⌜ r ≤ reportRoom ⌝ }
 {
     let end = heading(out, iterations, reason);
     position_lines(out, end, n, soft, mark, coded_soft, coded_mark)
@@ -108,15 +127,16 @@ fn outcome(
 
 // The outcome of an accepted block, in a workspace with room for every block.
 fn decoded(out: &mut [u8], settings: Settings, mask: &[u8], llr: &[i16], work: &mut [i16]) -> usize
-    requires { ⌜ Fit settings (now mask) (now llr) ⌝ }
-    requires { ⌜ (length (now work) ≡ 22528) × (32768 ≤ length (now out)) ⌝ }
-    ensures { λ r. ⌜ Wrote (now (out .entry)) 0 (blockText settings (now (mask .entry)) (now (llr .entry)) (now (work .entry))) (now (out .exit)) r ⌝ }
-    ensures { λ r. ⌜ r ≤ 32768 ⌝ }
+    requires { ⌜ Fit settings (blockOf (now mask) (now llr)) ⌝ }
+    requires { ⌜ (length (now work) ≡ mostWorkspace) × (reportRoom ≤ length (now out)) ⌝ }
+    ensures { λ r. ⌜ Wrote (now (out .entry)) 0
+        (blockText settings (blockOf (now (mask .entry)) (now (llr .entry))) (now (work .entry))) (now (out .exit)) r ⌝ }
+    ensures { λ r. ⌜ r ≤ reportRoom ⌝ }
 {
-    let mut soft = [0i16; 1024];
-    let mut mark = [0u8; 1024];
-    let mut coded_soft = [0i16; 1024];
-    let mut coded_mark = [0u8; 1024];
+    let mut soft = [0i16; MOST_POSITIONS];
+    let mut mark = [0u8; MOST_POSITIONS];
+    let mut coded_soft = [0i16; MOST_POSITIONS];
+    let mut coded_mark = [0u8; MOST_POSITIONS];
     let answer = decoder::decode(
         settings,
         mask,
@@ -146,17 +166,17 @@ fn decoded(out: &mut [u8], settings: Settings, mask: &[u8], llr: &[i16], work: &
 }
 
 // The report of a text: `&out[..report(text, &mut out)]`.
-pub fn report(text: &[u8], out: &mut [u8; 32768]) -> usize
+pub fn report(text: &[u8], out: &mut [u8; REPORT_ROOM]) -> usize
     ensures { λ r. ⌜ Wrote (now (out .entry)) 0 (report (now (text .entry))) (now (out .exit)) r ⌝ }
     ensures { λ r. ⌜ Within r (now (out .exit)) ⌝ }
 {
-    let mut mask = [0u8; 1024];
-    let mut llr = [0i16; 1024];
+    let mut mask = [0u8; MOST_POSITIONS];
+    let mut llr = [0i16; MOST_POSITIONS];
     match report_input::read(text, &mut mask, &mut llr) {
         Input::Refused(refusal) => refused(out, refusal),
         Input::Accepted(settings) => {
             let n = polar::power_of_two(settings.m);
-            let mut work = [0i16; 22528];
+            let mut work = [0i16; MOST_WORKSPACE];
             decoded(out, settings, &mask[..n], &llr[..n], &mut work)
         }
     }

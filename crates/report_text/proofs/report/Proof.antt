@@ -9,9 +9,10 @@ use lib.Seq.{length-take-le}
 use Rattle.format.specs.Wrote.{Wrote}
 use Rattle.format.specs.WroteLaws.{wrote-length}
 use Rattle.report_text.specs.Private.{Within}
-use Rattle.report_input.specs.Input.{meaning}
+use Rattle.report_input.specs.Input.{mostWorkspace, Block, blockOf, meaning}
+use Rattle.report_input.specs.Private.{firstOf}
 use Rattle.report_input.specs.ReadLaws.{AcceptedText, accepted-text, refused-text}
-use Rattle.report_text.specs.Report.{textOf, report}
+use Rattle.report_text.specs.Report.{reportRoom, textOf, report}
 use Rattle.report_text.specs.ReportLaws.{fit-length}
 use borrow.Author.Needs.{needs}
 use Rattle.report_text.proofs.report.Statement.{statement}
@@ -23,22 +24,39 @@ use Rattle.report_text.proofs.decoded.Reads as decoded-reads
 use Rattle.report_text.proofs.refused.Reads as refused-reads
 use Rattle.polar.proofs.power_of_two.Reads as power-of-two-reads
 
-within : {old new x : List ℕ} {n : ℕ} → Wrote old 0 x new n → n ≤ 32768 → length old ≡ 32768 → Within n new
-within {new = new} {n = n} w h e = let long = wrote-length w in (omega (arith, long), sym (length-take-le n new (omega (arith, long))))
+within : {old new x : List ℕ} {n : ℕ} → Wrote old 0 x new n → n ≤ reportRoom → length old ≡ reportRoom → Within n new
+within {new = new} {n = n} w h e =
+    let long = wrote-length w in
+    (omega (arith, long), sym (length-take-le n new (omega (arith, long))))
+
+-- what the function is handed, and what the slices hold, seen from behind the reading
+module _ (c : tie.After-read) where
+  abbrev start : tie.Start
+  start = c .before .before .before .before
+
+  abbrev slices : Block
+  slices = blockOf (c .read .last .1 .0) (c .read .last .1 .1 .0)
 
 -- the text that was accepted
-text : (c : tie.After-power-of-two) →
-    let n = c .power-of-two .result in
-    let read = c .before .before .before .before .read .last in
-    AcceptedText (meaning (c .before .before .before .before .before .before .before .before .args .text .now)) (c .before .before .settings .given .0 .0) (take n (read .1 .0)) (take n (read .1 .1 .0))
-text c = accepted-text (c .before .before .before .before .before .before .before .before .args .text .now) (c .before .before .before .before .read .ensures) (c .before .before .settings .given .1) (c .power-of-two .ensures)
+module _ (c : tie.After-power-of-two) where
+  abbrev reading : tie.After-read
+  reading = c .before .before .before .before
 
--- its mask and LLRs have as many elements as the part that is lent
-mask-long : (c : tie.After-power-of-two) → let n = c .power-of-two .result in n ≡ length (take n (c .before .before .before .before .read .last .1 .0))
-mask-long c = c .power-of-two .ensures ∙ sym (text c .fit .mask-long)
+  abbrev n : ℕ
+  n = c .power-of-two .result
 
-llr-long : (c : tie.After-power-of-two) → let n = c .power-of-two .result in n ≡ length (take n (c .before .before .before .before .read .last .1 .1 .0))
-llr-long c = c .power-of-two .ensures ∙ sym (text c .fit .llr-long)
+  text : AcceptedText (meaning (start reading .args .text .now)) (c .before .before .settings .given .0 .0)
+      (firstOf n (slices reading))
+  text =
+      accepted-text (start reading .args .text .now) (reading .read .ensures) (c .before .before .settings .given .1)
+      (c .power-of-two .ensures)
+
+  -- its mask and LLRs have as many elements as the part that is lent
+  mask-long : n ≡ length (take n (slices reading .mask))
+  mask-long = c .power-of-two .ensures ∙ sym (text .fit .long .mask-long)
+
+  llr-long : n ≡ length (take n (slices reading .llr))
+  llr-long = c .power-of-two .ensures ∙ sym (text .fit .long .llr-long)
 
 read-requires : tie.Need-read-requires
 read-requires c κs = search needs
@@ -53,16 +71,20 @@ enum-known-settings : tie.Need-enum-known-settings
 enum-known-settings c = search needs
 
 power-of-two-requires : tie.Need-power-of-two-requires
-power-of-two-requires c κs = fit-length (accepted-text (c .before .before .before .before .before .before .before .args .text .now) (c .before .before .before .read .ensures) (c .before .settings .given .1) refl .fit)
+power-of-two-requires c κs =
+    let r = c .before .before .before in
+    fit-length (accepted-text (start r .args .text .now) (r .read .ensures) (c .before .settings .given .1) refl .fit)
 
 array-share-prefix-mask : tie.Need-array-share-prefix-mask
-array-share-prefix-mask c = omega (arith, length-take (c .before .power-of-two .result) (c .before .before .before .before .before .read .last .1 .0), mask-long (c .before))
+array-share-prefix-mask c =
+    let m = c .before in omega (arith, length-take (n m) (slices (reading m) .mask), mask-long m)
 
 slice-aggregate-decoded : tie.Need-slice-aggregate-decoded
 slice-aggregate-decoded c = mask-long (c .before .before)
 
 array-share-prefix-llr : tie.Need-array-share-prefix-llr
-array-share-prefix-llr c = omega (arith, length-take (c .before .before .power-of-two .result) (c .before .before .before .before .before .before .read .last .1 .1 .0), llr-long (c .before .before))
+array-share-prefix-llr c =
+    let m = c .before .before in omega (arith, length-take (n m) (slices (reading m) .llr), llr-long m)
 
 slice-aggregate-decoded-2 : tie.Need-slice-aggregate-decoded-2
 slice-aggregate-decoded-2 c = llr-long (c .before .before .before)
@@ -71,25 +93,30 @@ slice-aggregate-decoded-3 : tie.Need-slice-aggregate-decoded-3
 slice-aggregate-decoded-3 c = search needs
 
 decoded-requires : tie.Need-decoded-requires
-decoded-requires c κs =
-    (text (c .before .before .before .before) .fit, (length-replicate 22528 (pos 0), omega (arith, c .before .before .before .decoded-arg .given)))
+decoded-requires c κs = (
+  text (c .before .before .before .before) .fit,
+  (length-replicate mostWorkspace (pos 0), omega (arith, c .before .before .before .decoded-arg .given)),
+)
 
 returns : tie.Need-returns
 unfolding report
 returns c =
-    let t = c .before .before .before .before .before .before .before .before .before .args .text .now in
+    let r = c .before .before .before .before .before in
+    let a = start r .args in
     let written = c .refused in
-    let same = sym (ap textOf (refused-text t (c .before .before .before .before .before .read .ensures) (c .before .before .before .refusal .given .1))) in (
-      subst (λ (text : List ℕ). Wrote (c .before .before .before .before .before .before .before .before .before .args .out .now) 0 text (written .last .0) (written .result)) same (written .ensures .0),
+    let means = refused-text (a .text .now) (r .read .ensures) (c .before .before .before .refusal .given .1) in (
+      subst (λ (text : List ℕ). Wrote (a .out .now) 0 text (written .last .0) (written .result))
+          (sym (ap textOf means)) (written .ensures .0),
       within (written .ensures .0) (written .ensures .1) (c .before .refused-arg .given .0 .1),
     )
 
 returns-2 : tie.Need-returns-2
 unfolding report
 returns-2 c =
-    let written = c .before .decoded in
-    let same = sym (ap textOf (text (c .before .before .before .before .before .before) .is)) in (
-      subst (λ (text : List ℕ). Wrote (c .before .before .before .before .before .before .before .before .before .before .before .before .before .before .args .out .now) 0 text (written .last .0) (written .result)) same (written .ensures .0),
+    let m = c .before .before .before .before .before .before in
+    let written = c .before .decoded in (
+      subst (λ (text : List ℕ). Wrote (start (reading m) .args .out .now) 0 text (written .last .0) (written .result))
+          (sym (ap textOf (text m .is))) (written .ensures .0),
       within (written .ensures .0) (written .ensures .1) (c .before .before .before .before .before .decoded-arg .given .0 .1),
     )
 
