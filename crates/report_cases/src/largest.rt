@@ -5,6 +5,7 @@ ghost use Prim.Native.Nat.{_+_, _<_, _≤_};
 ghost use lib.ListN.{length};
 use crate::say;
 use libc::STDOUT_FILENO;
+use report_text::REPORT_ROOM;
 
 // One of two texts of at most six bytes.
 fn either(out: &mut [u8], at: usize, first: bool, one: &[u8], other: &[u8]) -> usize
@@ -82,7 +83,7 @@ fn summary(output: &[u8]) {
 
 // The report of a text.
 fn report(about: &[u8], text: &[u8]) {
-    let mut out = [0u8; 32768];
+    let mut out = [0u8; REPORT_ROOM];
     say::name(about);
     let end = report_text::report(text, &mut out);
     summary(&out[..end]);

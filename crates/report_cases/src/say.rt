@@ -2,6 +2,7 @@
 ghost use Prim.Native.Nat.{_≤_};
 ghost use lib.ListN.{length};
 use libc::STDOUT_FILENO;
+use report_text::REPORT_ROOM;
 
 // Bytes as they stand.
 pub fn bytes(bytes: &[u8]) {
@@ -16,7 +17,7 @@ pub fn name(name: &[u8]) {
 
 // A whole text.
 pub fn report(about: &[u8], text: &[u8]) {
-    let mut out = [0u8; 32768];
+    let mut out = [0u8; REPORT_ROOM];
     name(about);
     let end = report_text::report(text, &mut out);
     bytes(&out[..end]);
