@@ -24,17 +24,26 @@ use Rattle.report_input.proofs.mask_value.Reads as mask-value-reads
 use Rattle.report_input.proofs.unsigned.Reads as unsigned-reads
 use Rattle.scan.proofs.line.Reads as line-reads
 
--- the three values that were read
-abbrev values : tie.After-known-told → List ℤ
-values c = c .before .before .before .before .line .last .1 .1 .1 .0
+-- what the function is handed, and the three values that were read
+module _ (c : tie.After-known-told) where
+  abbrev start : tie.Start
+  start = c .before .before .before .before .before .before .before
 
-read : (c : tie.After-known-told) →
-    let a = c .before .before .before .before .before .before .before .args in
-    line 3 (drop (a .at) (a .text .now)) ≡ found (take 3 (values c)) (drop (c .before .line2 .given .0 .0) (a .text .now))
-read c = c .before .before .before .before .line .ensures .0 ∙ ap (readTo (c .before .before .before .before .before .before .before .args .text .now) (take 3 (values c))) (c .before .line2 .given .1)
+  abbrev text : List ℕ
+  text = start .args .text .now
+
+  abbrev values : List ℤ
+  values = c .before .before .before .before .line .last .1 .1 .1 .0
+
+  read : line 3 (drop (start .args .at) text) ≡ found (take 3 values) (drop (c .before .line2 .given .0 .0) text)
+  read =
+      c .before .before .before .before .line .ensures .0
+      ∙ ap (readTo text (take 3 values)) (c .before .line2 .given .1)
 
 position : (c : tie.After-unsigned) → c .unsigned .result ≡ unsigned (valueAt (values (c .before .before)) 0)
-position c = c .unsigned .ensures ∙ ap unsigned (kept (valueAt (values (c .before .before)) 0) (c .before .unsigned-arg .given))
+position c =
+    c .unsigned .ensures
+    ∙ ap unsigned (kept (valueAt (values (c .before .before)) 0) (c .before .unsigned-arg .given))
 
 slice-aggregate-line : tie.Need-slice-aggregate-line
 slice-aggregate-line c = search needs
@@ -50,9 +59,11 @@ enum-told c = search needs
 
 returns : tie.Need-returns
 returns c =
-    let a = c .before .before .before .before .before .before .args in
-    let called = c .before .before .before .line in
-    position-line-malformed (a .position) (drop (a .at) (a .text .now)) (called .ensures .0 ∙ ap (readTo (a .text .now) (take 3 (called .last .1 .1 .1 .0))) (c .enum-told .given .1))
+    let called = c .before .before .before in
+    let a = called .before .before .before .args in
+    position-line-malformed (a .position) (drop (a .at) (a .text .now))
+    (called .line .ensures .0
+    ∙ ap (readTo (a .text .now) (take 3 (called .line .last .1 .1 .1 .0))) (c .enum-told .given .1))
 
 array-copy-out-unsigned : tie.Need-array-copy-out-unsigned
 array-copy-out-unsigned c = search needs
@@ -77,18 +88,24 @@ llr-value-requires c κs = search needs
 
 returns-2 : tie.Need-returns-2
 returns-2 c =
-    let start = c .before .before .before .before .before .before .before in
-    let a = start .before .before .before .before .before .before .before .args in
-    let zs = values start in
-    let frozen : c .before .before .mask-value .result ≡ maskValue (valueAt zs 1) = c .before .before .mask-value .ensures ∙ ap maskValue (kept (valueAt zs 1) (c .before .before .before .mask-value-arg .given)) in
+    let test = c .before .before .before .before in
+    let told = test .before .before .before in
+    let zs = values told in
+    let mask = c .before .before in
+    let frozen : mask .mask-value .result ≡ maskValue (valueAt zs 1) =
+    mask .mask-value .ensures ∙ ap maskValue (kept (valueAt zs 1) (mask .before .mask-value-arg .given)) in
     let llr : toZ w16 (ofZ w16 (c .llr-value .result)) ≡ llrValue (valueAt zs 2) =
-    toZ-ofZ {w = w16} (record { sfits = c .llr-value .ok }) ∙ c .llr-value .ensures ∙ ap llrValue (kept (valueAt zs 2) (c .before .llr-value-arg .given)) in
-    position-line-found (a .position) zs _ _ (read start) ∙ rw (← position (c .before .before .before .before .before), eq-eqb _ _ (c .before .before .before .before .if1 .taken), frozen, llr)
+    toZ-ofZ {w = w16} (record { sfits = c .llr-value .ok })
+    ∙ c .llr-value .ensures
+    ∙ ap llrValue (kept (valueAt zs 2) (c .before .llr-value-arg .given)) in
+    position-line-found (start told .args .position) zs _ _ (read told)
+    ∙ rw (← position (test .before), eq-eqb _ _ (test .if1 .taken), frozen, llr)
 
 returns-3 : tie.Need-returns-3
 returns-3 c =
-    let start = c .before .before .before in
-    position-line-found (start .before .before .before .before .before .before .before .args .position) (values start) _ _ (read start) ∙ rw (← position (c .before), ne-eqb _ _ (c .if1 .left))
+    let told = c .before .before .before in
+    position-line-found (start told .args .position) (values told) _ _ (read told)
+    ∙ rw (← position (c .before), ne-eqb _ _ (c .if1 .left))
 
 pub position-line-spec : {M : Type 1} → statement M
 position-line-spec =

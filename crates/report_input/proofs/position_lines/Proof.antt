@@ -10,7 +10,13 @@ use mir.Facts.{toZ-ofZ}
 use Rattle.scan.specs.Reading.{found}
 use lib.Seq.{drop-set-lt}
 use Rattle.report_input.specs.Input.{positionLines}
-use Rattle.report_input.specs.InputLaws.{prefixed, prefixed-empty, position-lines-next, position-lines-stop, position-lines-end}
+use Rattle.report_input.specs.InputLaws.{
+  prefixed,
+  prefixed-empty,
+  position-lines-next,
+  position-lines-stop,
+  position-lines-end,
+}
 use Rattle.report_input.specs.Private.{positionRead}
 use Rattle.report_input.proofs.position_lines.Statement.{statement}
 use Rattle.report_input.proofs.position_lines.Tie as tie
@@ -33,9 +39,10 @@ abbrev μ-loop : tie.MeasureT-loop
 loop-holds : tie.Need-loop-holds Inv-loop μ-loop
 loop-holds c =
     let a = c .before .before .args in
-    let none : positionLines (a .n - 0) 0 (drop (a .at) (a .text .now)) ≡ positionLines (a .n) 0 (drop (a .at) (a .text .now)) =
-    ap (λ (k : ℕ). positionLines k 0 (drop (a .at) (a .text .now))) (omega arith) in
-    (omega arith, refl, refl, refl, refl, sym (prefixed-empty (positionLines (a .n - 0) 0 (drop (a .at) (a .text .now))) ∙ none))
+    let t = drop (a .at) (a .text .now) in
+    let none : positionLines (a .n - 0) 0 t ≡ positionLines (a .n) 0 t =
+    ap (λ (k : ℕ). positionLines k 0 t) (omega arith) in
+    (omega arith, refl, refl, refl, refl, sym (prefixed-empty (positionLines (a .n - 0) 0 t) ∙ none))
 
 position-line-requires : tie.Need-position-line-requires Inv-loop μ-loop
 position-line-requires c κs = search needs
@@ -54,10 +61,14 @@ same-length-2 c = c .before .before .before .before .loop .inv .2
 
 returns : tie.Need-returns Inv-loop μ-loop
 returns c =
-    let a = c .before .before .before .before .before .before .before .args in
-    let at = c .before .before .before .before .loop in
+    let turn = c .before .before .before .before in
+    let a = turn .before .before .before .args in
+    let at = turn .loop in
     let called = c .before .before .position-line .ensures ∙ ap (positionRead (a .text .now)) (c .enum-told .given .1) in
-    (at .inv .5 ∙ position-lines-stop (a .n) (at .i) (take (at .i) (at .mask)) (take (at .i) (at .llr)) (drop (at .next) (a .text .now)) (omega arith) called, (at .inv .3, at .inv .4))
+    let stop =
+    position-lines-stop (a .n) (at .i) (take (at .i) (at .mask)) (take (at .i) (at .llr))
+    (drop (at .next) (a .text .now)) (omega arith) called in
+    (at .inv .5 ∙ stop, (at .inv .3, at .inv .4))
 
 slice-write-mask : tie.Need-slice-write-mask Inv-loop μ-loop
 slice-write-mask c = omega arith
@@ -76,21 +87,23 @@ loop-less c = omega arith
 
 loop-again : tie.Need-loop-again Inv-loop μ-loop
 loop-again c =
-    let a = c .before .before .before .before .before .before .before .before .args in
-    let at = c .before .before .before .before .before .loop in
+    let turn = c .before .before .before .before .before in
+    let a = turn .before .before .before .args in
+    let at = turn .loop in
     let frozen = c .before .position .given .0 .0 in
     let llr = c .before .position .given .0 .1 .0 in
-    let called = c .before .before .before .position-line .ensures ∙ ap (positionRead (a .text .now)) (c .before .position .given .1) in
-    let held : toZ w16 (ofZ w16 llr) ≡ llr = toZ-ofZ {w = w16} (record { sfits = c .known-told .given .1 .0 .1 }) in
-    rw held (
+    let called = c .before .before .before .position-line .ensures in
+    let line = called ∙ ap (positionRead (a .text .now)) (c .before .position .given .1) in
+    let same : toZ w16 (ofZ w16 llr) ≡ llr = toZ-ofZ {w = w16} (record { sfits = c .known-told .given .1 .0 .1 }) in
+    rw same (
       omega arith,
       length-set (at .mask) (at .i) frozen ∙ at .inv .1,
       length-set (at .llr) (at .i) llr ∙ at .inv .2,
       drop-set-lt (a .n) (at .mask) (at .i) frozen (omega arith) ∙ at .inv .3,
       drop-set-lt (a .n) (at .llr) (at .i) llr (omega arith) ∙ at .inv .4,
       at .inv .5
-          ∙ position-lines-next (a .n) (at .i) (at .mask) (at .llr) (drop (at .next) (a .text .now)) _ (record { frozen = frozen; llr = llr })
-          (omega arith) (omega arith) (omega arith) called,
+          ∙ position-lines-next (a .n) (at .i) (at .mask) (at .llr) (drop (at .next) (a .text .now)) _
+          (record { frozen = frozen; llr = llr }) (omega arith) (omega arith) (omega arith) line,
     )
 
 same-length-3 : tie.Need-same-length-3 Inv-loop μ-loop

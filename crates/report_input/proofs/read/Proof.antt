@@ -36,9 +36,12 @@ returns-2 c =
 
 returns-3 : tie.Need-returns-3
 returns-3 c =
-    let t = c .before .before .before .before .before .before .before .before .before .args .text .now in
-    let first = c .before .before .before .before .before .before .read-head .ensures ∙ ap (headRead t) (c .before .before .before .before .settings .given .1) in
-    rw (meaning-sized t (c .before .before .before .before .before .before .before .if1 .left), first) (c .read-block .ensures)
+    let told = c .before .before .before .before in
+    let called = told .before .before in
+    let test = called .before in
+    let t = test .before .before .args .text .now in
+    let first = called .read-head .ensures ∙ ap (headRead t) (told .settings .given .1) in
+    rw (meaning-sized t (test .if1 .left), first) (c .read-block .ensures)
 
 pub read-spec : {M : Type 1} → statement M
 read-spec =

@@ -1,4 +1,5 @@
 -- `read_head` meets its contract.
+use Prim.Native.Nat.{ℕ}
 use mathlib.Core.Path.{_≡_, ap, _∙_}
 use mathlib.Core.List.{List}
 use lib.IntN.{ℤ}
@@ -17,19 +18,32 @@ use Rattle.report_input.proofs.settings_of.Reads as settings-of-reads
 use Rattle.scan.proofs.line.Reads as line-reads
 use Rattle.scan.proofs.literal.Reads as literal-reads
 
--- the first line, and the second with the six values that were read
-first : (c : tie.After-known-told) →
-    let t = c .before .before .before .before .before .before .args .text .now in
-    literal settingNames t ≡ found tt (drop (c .before .names .given .0 .0) t)
-first c = c .before .before .before .literal .ensures ∙ ap (readTo (c .before .before .before .before .before .before .args .text .now) tt) (c .before .names .given .1)
+-- what the function is handed, and its first line
+module _ (c : tie.After-known-told) where
+  abbrev start : tie.Start
+  start = c .before .before .before .before .before .before
 
-abbrev values : tie.After-known-told2 → List ℤ
-values c = c .before .before .before .before .line .last .1 .1 .1 .0
+  abbrev text : List ℕ
+  text = start .args .text .now
 
-second : (c : tie.After-known-told2) →
-    let t = c .before .before .before .before .before .before .before .before .before .before .before .before .args .text .now in
-    line 6 (drop (c .before .before .before .before .before .before .before .names .given .0 .0) t) ≡ found (take 6 (values c)) (drop (c .before .line2 .given .0 .0) t)
-second c = c .before .before .before .before .line .ensures .0 ∙ ap (readTo (c .before .before .before .before .before .before .before .before .before .before .before .before .args .text .now) (take 6 (values c))) (c .before .line2 .given .1)
+  first : literal settingNames text ≡ found tt (drop (c .before .names .given .0 .0) text)
+  first = c .before .before .before .literal .ensures ∙ ap (readTo text tt) (c .before .names .given .1)
+
+-- the second line, with the six values that were read
+module _ (c : tie.After-known-told2) where
+  abbrev behind-first : tie.After-known-told
+  behind-first = c .before .before .before .before .before .before
+
+  abbrev t : List ℕ
+  t = text behind-first
+
+  abbrev values : List ℤ
+  values = c .before .before .before .before .line .last .1 .1 .1 .0
+
+  second : line 6 (drop (behind-first .before .names .given .0 .0) t)
+      ≡ found (take 6 values) (drop (c .before .line2 .given .0 .0) t)
+  second =
+      c .before .before .before .before .line .ensures .0 ∙ ap (readTo t (take 6 values)) (c .before .line2 .given .1)
 
 slice-aggregate-literal : tie.Need-slice-aggregate-literal
 slice-aggregate-literal c = search needs
@@ -62,9 +76,10 @@ enum-told-2 c = search needs
 
 returns-2 : tie.Need-returns-2
 returns-2 c =
-    let t = c .before .before .before .before .before .before .before .before .before .before .before .args .text .now in
+    let one = c .before .before .before .before .before in
     let called = c .before .before .before .line in
-    head-second t _ (first (c .before .before .before .before .before)) (called .ensures .0 ∙ ap (readTo t (take 6 (called .last .1 .1 .1 .0))) (c .enum-told2 .given .1))
+    head-second (text one) _ (first one)
+    (called .ensures .0 ∙ ap (readTo (text one) (take 6 (called .last .1 .1 .1 .0))) (c .enum-told2 .given .1))
 
 slice-aggregate-literal-2 : tie.Need-slice-aggregate-literal-2
 slice-aggregate-literal-2 c = search needs
@@ -80,17 +95,19 @@ enum-told-3 c = search needs
 
 returns-3 : tie.Need-returns-3
 returns-3 c =
-    let t = c .before .before .before .before .before .before .before .before .before .before .before .before .before .before .before .before .args .text .now in
-    head-third t _ _ _ (first (c .before .before .before .before .before .before .before .before .before .before)) (second (c .before .before .before .before)) (c .before .before .literal2 .ensures ∙ ap (readTo t tt) (c .enum-told3 .given .1))
+    let two = c .before .before .before .before in
+    head-third (t two) _ _ _ (first (behind-first two)) (second two)
+    (c .before .before .literal2 .ensures ∙ ap (readTo (t two) tt) (c .enum-told3 .given .1))
 
 settings-of-requires : tie.Need-settings-of-requires
 settings-of-requires c κs = search needs
 
 returns-4 : tie.Need-returns-4
 returns-4 c =
-    let t = c .before .before .before .before .before .before .before .before .before .before .before .before .before .before .before .before .before .before .before .args .text .now in
-    let names = c .before .before .before .before .before .literal2 .ensures ∙ ap (readTo t tt) (c .before .before .before .names2 .given .1) in
-    head-found t _ _ _ (values (c .before .before .before .before .before .before .before)) (first (c .before .before .before .before .before .before .before .before .before .before .before .before .before)) (second (c .before .before .before .before .before .before .before)) names ∙ rw (c .settings-of .ensures)
+    let two = c .before .before .before .before .before .before .before in
+    let called = c .before .before .before .before .before .literal2 .ensures in
+    let third = called ∙ ap (readTo (t two) tt) (c .before .before .before .names2 .given .1) in
+    head-found (t two) _ _ _ (values two) (first (behind-first two)) (second two) third ∙ rw (c .settings-of .ensures)
 
 pub read-head-spec : {M : Type 1} → statement M
 read-head-spec =

@@ -1,11 +1,12 @@
 -- `refusal` meets its contract.
 use Prim.Native.Nat.{ℕ, _^_, _≤_}
 use mathlib.Core.Path.{_≡_, sym, ap, _∙_}
+use mathlib.Core.List.{List}
 use native.Mathlib.Omega.{arith}
 use lib.ListN.{drop}
 use lib.Pow.{pow-mono}
 use lib.Seq.{length-take-le}
-use Rattle.scan.specs.Reading.{found}
+use Rattle.scan.specs.Reading.{Reading, found}
 use Rattle.scan.specs.Answers.{readTo}
 use Rattle.report_input.specs.Input.{Block, blockOf, positionLines}
 use Rattle.report_input.specs.InputLaws.{lines-malformed, lines-followed, lines-number}
@@ -22,23 +23,34 @@ use Rattle.settings.proofs.refusal.Reads as refusal-reads
 small : (c : tie.After-power-of-two) → c .power-of-two .result ≤ 2 ^ 10
 small c = rw (c .power-of-two .ensures) (pow-mono (c .before .before .pre .1))
 
--- what the call of `position_lines` read
-abbrev block : tie.After-position-lines → Block
-block c =
-    let read = c .position-lines .last .1 .1 .1 in
-    firstOf (c .before .before .before .power-of-two .result) (blockOf (read .0) (read .1 .0))
+-- what the function is handed, and what the call of `position_lines` read
+module _ (c : tie.After-position-lines) where
+  abbrev start : tie.Start
+  start = c .before .before .before .before .before
 
-read : (c : tie.After-position-lines) →
-    let s = c .before .before .before .before .before in
-    positionLines (2 ^ s .args .settings .m) 0 (drop (s .args .at) (s .args .text .now)) ≡ readTo (s .args .text .now) (block c) (c .position-lines .result)
-read c =
-    let s = c .before .before .before .before .before in
-    ap (λ (n : ℕ). positionLines n 0 (drop (s .args .at) (s .args .text .now))) (sym (c .before .before .before .power-of-two .ensures)) ∙ c .position-lines .ensures .0
+  abbrev text : List ℕ
+  text = start .args .text .now
 
-at-end : (c : tie.After-known-told) →
-    let s = c .before .before .before .before .before .before .before .before .before .before in
-    positionLines (2 ^ s .args .settings .m) 0 (drop (s .args .at) (s .args .text .now)) ≡ found (block (c .before .before .before .before .before)) (drop (c .before .read .given .0 .0) (s .args .text .now))
-at-end c = read (c .before .before .before .before .before) ∙ ap (readTo (c .before .before .before .before .before .before .before .before .before .before .args .text .now) (block (c .before .before .before .before .before))) (c .before .read .given .1)
+  abbrev block : Block
+  block =
+      let read = c .position-lines .last .1 .1 .1 in
+      firstOf (c .before .before .before .power-of-two .result) (blockOf (read .0) (read .1 .0))
+
+  abbrev lines : Reading Block
+  lines = positionLines (2 ^ start .args .settings .m) 0 (drop (start .args .at) text)
+
+  read : lines ≡ readTo text block (c .position-lines .result)
+  read =
+      ap (λ (n : ℕ). positionLines n 0 (drop (start .args .at) text))
+      (sym (c .before .before .before .power-of-two .ensures))
+      ∙ c .position-lines .ensures .0
+
+module _ (c : tie.After-known-told) where
+  abbrev reading : tie.After-position-lines
+  reading = c .before .before .before .before .before
+
+  at-end : lines reading ≡ found (block reading) (drop (c .before .read .given .0 .0) (text reading))
+  at-end = read reading ∙ ap (readTo (text reading) (block reading)) (c .before .read .given .1)
 
 power-of-two-requires : tie.Need-power-of-two-requires
 power-of-two-requires c κs = search needs
@@ -60,23 +72,27 @@ enum-told c = search needs
 
 returns : tie.Need-returns
 returns c =
-    let s = c .before .before .before .before .before .before .before .before .before in
-    let t = s .args .text .now in
-    lines-malformed (s .args .settings) _ (read (c .before .before .before .before) ∙ ap (readTo t (block (c .before .before .before .before))) (c .enum-told .given .1))
+    let r = c .before .before .before .before in
+    lines-malformed (start r .args .settings) _ (read r ∙ ap (readTo (text r) (block r)) (c .enum-told .given .1))
 
 returns-2 : tie.Need-returns-2
 returns-2 c =
-    let s = c .before .before .before .before .before .before .before .before .before .before .before in
-    lines-followed (s .args .settings) _ (block (c .before .before .before .before .before .before)) (c .before .before .read .given .0 .0) (s .args .text .now) (at-end (c .before)) (c .if1 .taken)
+    let r = reading (c .before) in
+    lines-followed (start r .args .settings) _ (block r) (c .before .before .read .given .0 .0) (text r)
+    (at-end (c .before)) (c .if1 .taken)
 
 array-share-prefix-mask : tie.Need-array-share-prefix-mask
-array-share-prefix-mask c = omega (arith, c .before .before .before .before .before .mask2 .given, small (c .before .before .before .before .before .before .before .before .before))
+array-share-prefix-mask c =
+    let r = c .before .before .before .before .before in
+    omega (arith, r .mask2 .given, small (r .before .before .before .before))
 
 slice-aggregate-refusal : tie.Need-slice-aggregate-refusal
 slice-aggregate-refusal c = sym (length-take-le _ _ (array-share-prefix-mask (c .before)))
 
 array-share-prefix-llr : tie.Need-array-share-prefix-llr
-array-share-prefix-llr c = omega (arith, c .before .before .before .before .before .llr2 .given, small (c .before .before .before .before .before .before .before .before .before .before))
+array-share-prefix-llr c =
+    let r = c .before .before .before .before .before in
+    omega (arith, r .llr2 .given, small (r .before .before .before .before .before))
 
 slice-aggregate-refusal-2 : tie.Need-slice-aggregate-refusal-2
 slice-aggregate-refusal-2 c = sym (length-take-le _ _ (array-share-prefix-llr (c .before)))
@@ -86,8 +102,10 @@ refusal-requires c κs = search needs
 
 returns-3 : tie.Need-returns-3
 returns-3 c =
-    let s = c .before .before .before .before .before .before .before .before .before .before .before .before .before .before in
-    c .refusal .ensures ∙ lines-number (s .args .settings) _ (block (c .before .before .before .before .before .before .before .before .before)) _ (s .args .text .now) (at-end (c .before .before .before .before)) (c .before .before .before .if1 .left)
+    let told = c .before .before .before .before in
+    let r = reading told in
+    c .refusal .ensures
+    ∙ lines-number (start r .args .settings) _ (block r) _ (text r) (at-end told) (c .before .before .before .if1 .left)
 
 pub refusal-spec : {M : Type 1} → statement M
 refusal-spec =
