@@ -1,4 +1,5 @@
--- Numbers as they are widened to signed 32 bits: the code's view of a number z is `toZ w32 (ofZ w32 z)`, which is z where z fits.
+-- Numbers as they are widened to signed 32 bits: the code's view of a number z is `toZ w32 (ofZ w32 z)`, which is z where
+-- z fits.
 use Prim.Native.Nat.{ℕ, _<_, _≤_, _^_}
 use mathlib.Core.Path.{_≡_}
 use mathlib.Core.List.{List, [], _∷_}
@@ -23,7 +24,14 @@ widenedValues p soft mark codedSoft codedMark =
     ∷ toZ w32 codedMark
     ∷ []
 
-pub values-widened : (p : ℕ) (soft : ℤ) (mark : ℕ) (codedSoft : ℤ) (codedMark : ℕ) → p < 2 ^ 31 → SFits w16 soft → mark < 2 ^ 31 → SFits w16 codedSoft
-    → codedMark < 2 ^ 31 → widenedValues p soft mark codedSoft codedMark ≡ positionValues p soft mark codedSoft codedMark
+pub values-widened : (p : ℕ) (soft : ℤ) (mark : ℕ) (codedSoft : ℤ) (codedMark : ℕ)
+    → p < 2 ^ 31 → SFits w16 soft → mark < 2 ^ 31 → SFits w16 codedSoft → codedMark < 2 ^ 31
+    → widenedValues p soft mark codedSoft codedMark ≡ positionValues p soft mark codedSoft codedMark
 values-widened p soft mark codedSoft codedMark p-fits soft-fits mark-fits coded-soft-fits coded-fits =
-    rw (toZ-pos w32 p-fits, toZ-pos w32 mark-fits, toZ-pos w32 coded-fits, widened soft soft-fits, widened codedSoft coded-soft-fits)
+    rw (
+      toZ-pos w32 p-fits,
+      toZ-pos w32 mark-fits,
+      toZ-pos w32 coded-fits,
+      widened soft soft-fits,
+      widened codedSoft coded-soft-fits,
+    )

@@ -1,5 +1,5 @@
 -- `read_behind` meets its contract.
-use Prim.Native.Nat.{ℕ, _-_, _^_, _<_, _≤_}
+use Prim.Native.Nat.{ℕ, _-_, _≤_}
 use native.Mathlib.Nat.{le-trans}
 use mathlib.Core.List.{List}
 use mathlib.Core.Path.{_≡_}
@@ -8,7 +8,7 @@ use native.Mathlib.Omega.{arith}
 use lib.Dec.{T}
 use lib.IntN.{ℤ, pos, negsuc, natAbs}
 use lib.ListN.{length, take, drop, length-take}
-use lib.Signed.{ltZ, nonNeg, mag}
+use lib.Signed.{ltZ, nonNeg, natAbs-le}
 use mir.Syntax.{w64}
 use mir.Val.{toZ, ofZ}
 use mir.Facts.{toZ-ofZ}
@@ -24,21 +24,27 @@ moved-size : (most : ℕ) (z : ℤ) → Moved most z → ltZ z (pos 0) ≡ false
 moved-size most (pos k) moved e = (tt, moved)
 moved-size most (negsuc k) moved e = absurd (true≢false e)
 
-held : (c : tie.Else1) → toZ w64 (ofZ w64 (c .before .before .before .read .result)) ≡ c .before .before .before .read .result
-held c = toZ-ofZ {w = w64} (record { sfits = c .before .before .before .read .ok })
-
-fits : (z : ℤ) → mag z < 2 ^ 63 → natAbs z ≤ 2 ^ 63
-fits (pos n) h = omega arith
-fits (negsuc n) h = omega arith
-
 part-le : (n : ℕ) (l : List ℕ) → length (take (length l - n) (drop n l)) ≤ length l - n
 part-le n l = omega (arith, length-take (length l - n) (drop n l))
 
-size : (c : tie.Else1) → let a = c .before .before .before .before .before .before .args in T (nonNeg (c .before .before .before .read .result)) × (natAbs (c .before .before .before .read .result) ≤ length (a .text .now) - a .n)
-size c =
-    let a = c .before .before .before .before .before .before .args in
-    let read = moved-size _ (c .before .before .before .read .result) (c .before .before .before .read .ensures) (rw (held c) at (c .if1 .left)) in
-    (read .0, le-trans (read .1) (part-le (a .n) (a .text .now)))
+-- the number that the call gave, where it is not below zero
+module _ (c : tie.Else1) where
+  abbrev called : tie.After-read
+  called = c .before .before .before
+
+  abbrev start : tie.Start
+  start = called .before .before .before
+
+  abbrev got : ℤ
+  got = called .read .result
+
+  kept : toZ w64 (ofZ w64 got) ≡ got
+  kept = toZ-ofZ {w = w64} (record { sfits = called .read .ok })
+
+  size : T (nonNeg got) × (natAbs got ≤ length (start .args .text .now) - start .args .n)
+  size =
+      let read = moved-size _ got (called .read .ensures) (rw kept at (c .if1 .left)) in
+      (read .0, le-trans (read .1) (part-le (start .args .n) (start .args .text .now)))
 
 sub-read : tie.Need-sub-read
 sub-read c = search needs
@@ -53,7 +59,7 @@ read-requires : tie.Need-read-requires
 read-requires c κs = search needs
 
 cast-t10 : tie.Need-cast-t10
-cast-t10 c = rw (held c) (size c .0, omega (arith, fits (c .before .before .before .read .result) (c .before .before .before .read .ok)))
+cast-t10 c = rw (kept c) (size c .0, omega (arith, natAbs-le (got c) (called c .read .ok)))
 
 same-length : tie.Need-same-length
 same-length c = search needs
@@ -65,7 +71,7 @@ same-length-2 : tie.Need-same-length-2
 same-length-2 c = search needs
 
 returns-2 : tie.Need-returns-2
-returns-2 c = rw (held c) (size c .1)
+returns-2 c = rw (kept c) (size c .1)
 
 pub read-behind-spec : {M : Type 1} → statement M
 read-behind-spec =

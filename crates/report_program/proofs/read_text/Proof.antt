@@ -1,5 +1,5 @@
 -- `read_text` ends, and counts bytes of the slice: each turn reads at least one.
-use Prim.Native.Nat.{_-_, _≤_}
+use Prim.Native.Nat.{ℕ, _-_, _≤_}
 use mathlib.Core.Path.{_≡_, refl, sym, subst, _∙_}
 use native.Mathlib.Omega.{arith}
 use borrow.Author.Needs.{needs}
@@ -20,13 +20,22 @@ abbrev μ-loop : tie.MeasureT-loop
 μ-loop text₀ n₀ t5 text n = length text₀ - n
 
 -- a read keeps the slice's length, and brings at most as many bytes as there is room for
-kept : (c : tie.After-text Inv-loop μ-loop) → length (c .before .read-behind .last .0) ≡ length (c .before .before .before .before .before .before .args .text .now)
-kept c = c .text .given ∙ c .before .before .before .before .loop .inv .1
+module _ (c : tie.After-text Inv-loop μ-loop) where
+  abbrev turn : tie.At-loop Inv-loop μ-loop
+  turn = c .before .before .before .before
 
-more : (c : tie.After-known-told Inv-loop μ-loop) →
-    let loop = c .before .before .before .before .before .before .before .before .loop in
-    c .before .got .given .0 .0 ≤ length (loop .text) - loop .n
-more c = let loop = c .before .before .before .before .before .before .before .before .loop in subst (GotAtMost (length (loop .text) - loop .n)) (c .before .got .given .1) (c .before .before .before .before .before .read-behind .ensures)
+  kept : length (c .before .read-behind .last .0) ≡ length (turn .before .before .args .text .now)
+  kept = c .text .given ∙ turn .loop .inv .1
+
+module _ (c : tie.After-known-told Inv-loop μ-loop) where
+  abbrev reading : tie.After-text Inv-loop μ-loop
+  reading = c .before .before .before .before
+
+  abbrev room : ℕ
+  room = let loop = turn reading .loop in length (loop .text) - loop .n
+
+  more : c .before .got .given .0 .0 ≤ room
+  more = subst (GotAtMost room) (c .before .got .given .1) (reading .before .read-behind .ensures)
 
 loop-holds : tie.Need-loop-holds Inv-loop μ-loop
 loop-holds c = (omega arith, refl)
@@ -57,7 +66,8 @@ same-length-2 c = kept (c .before .before .before .before .before)
 
 returns-2 : tie.Need-returns-2 Inv-loop μ-loop
 returns-2 c =
-    let long = kept (c .before .before .before .before .before) in (omega (arith, long), sym (length-take-le _ _ (omega (arith, long))))
+    let long = kept (c .before .before .before .before .before) in
+    (omega (arith, long), sym (length-take-le _ _ (omega (arith, long))))
 
 add-n : tie.Need-add-n Inv-loop μ-loop
 add-n c = omega (arith, more (c .before))
@@ -66,7 +76,9 @@ loop-less : tie.Need-loop-less Inv-loop μ-loop
 loop-less c = omega (arith, more (c .before))
 
 loop-again : tie.Need-loop-again Inv-loop μ-loop
-loop-again c = (omega (arith, more (c .before), kept (c .before .before .before .before .before)), kept (c .before .before .before .before .before))
+loop-again c =
+    let long = kept (reading (c .before)) in
+    (omega (arith, more (c .before), long), long)
 
 same-length-3 : tie.Need-same-length-3 Inv-loop μ-loop
 same-length-3 c = c .before .loop .inv .1

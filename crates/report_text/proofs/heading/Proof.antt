@@ -49,12 +49,19 @@ module _ (c : tie.After-reason-number) where
   names : c .before .before .before .copy .result ≡ 18
   names = c .before .before .before .copy .ensures .next-is
 
-second-line : (c : tie.After-line) →
-    let n = c .before .before .before in
-    Wrote (n .before .before .before .copy .last .0) (n .before .before .before .copy .result) (line (pair n)) (c .line .last .0) (c .line .result)
-second-line c =
-    let n = c .before .before .before in
-    subst (λ (zs : List ℤ). Wrote (n .before .before .before .copy .last .0) (n .before .before .before .copy .result) (line zs) (c .line .last .0) (c .line .result)) (widened n) (c .line .ensures)
+-- the second line behind the first
+module _ (c : tie.After-line) where
+  abbrev numbered : tie.After-reason-number
+  numbered = c .before .before .before
+
+  abbrev copied : tie.After-copy
+  copied = numbered .before .before .before
+
+  second-line : Wrote (copied .copy .last .0) (copied .copy .result) (line (pair numbered)) (c .line .last .0) (c .line .result)
+  second-line =
+      subst (λ (zs : List ℤ).
+      Wrote (copied .copy .last .0) (copied .copy .result) (line zs) (c .line .last .0) (c .line .result))
+      (widened numbered) (c .line .ensures)
 
 slice-aggregate-copy : tie.Need-slice-aggregate-copy
 slice-aggregate-copy c = search needs
@@ -75,22 +82,34 @@ slice-aggregate-line : tie.Need-slice-aggregate-line
 slice-aggregate-line c = search needs
 
 line-requires : tie.Need-line-requires
-line-requires c κs = let n = c .before .before in rw (widened n) (omega (arith, wrote-length (n .before .before .before .copy .ensures), names n, short n))
+line-requires c κs =
+    let n = c .before .before in
+    rw (widened n) (omega (arith, wrote-length (n .before .before .before .copy .ensures), names n, short n))
 
 slice-aggregate-copy-2 : tie.Need-slice-aggregate-copy-2
 slice-aggregate-copy-2 c = search needs
 
 copy-requires-2 : tie.Need-copy-requires-2
 copy-requires-2 c κs =
-    let n = c .before .before .before .before .before .before .before in
-    let line-written = second-line (c .before .before .before .before) in
-    omega (arith, wrote-length (n .before .before .before .copy .ensures), wrote-length line-written, line-written .next-is, names n, short n)
+    let written = c .before .before .before .before in
+    let n = numbered written in
+    let second = second-line written in
+    omega (
+      arith,
+      wrote-length (copied written .copy .ensures),
+      wrote-length second,
+      second .next-is,
+      names n,
+      short n,
+    )
 
 same-length : tie.Need-same-length
 same-length c = search needs
 
 returns : tie.Need-returns
-returns c = wrote-then (c .before .before .before .before .before .before .before .before .before .before .before .before .before .copy .ensures) (wrote-then (second-line (c .before .before .before .before .before .before .before)) (c .before .before .copy2 .ensures))
+returns c =
+    let written = c .before .before .before .before .before .before .before in
+    wrote-then (copied written .copy .ensures) (wrote-then (second-line written) (c .before .before .copy2 .ensures))
 
 pub heading-spec : {M : Type 1} → statement M
 heading-spec =

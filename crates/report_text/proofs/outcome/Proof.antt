@@ -13,19 +13,29 @@ use Rattle.report_text.proofs.outcome.Lts as lts
 use Rattle.report_text.proofs.heading.Reads as heading-reads
 use Rattle.report_text.proofs.position_lines.Reads as position-lines-reads
 
-heading-end : (c : tie.After-heading) → c .heading .result ≤ 65
-heading-end c =
-    let a = c .before .before .before .before .before in
-    omega (arith, c .heading .ensures .next-is, heading-room (endingOf (a .args .iterations) (a .args .reason)) (a .pre .0 .0) (omega (arith, reason-le (a .args .reason))))
+module _ (c : tie.After-heading) where
+  abbrev start : tie.Start
+  start = c .before .before .before .before .before
+
+  heading-end : c .heading .result ≤ 65
+  heading-end =
+      let a = start .args in
+      omega (
+        arith,
+        c .heading .ensures .next-is,
+        heading-room (endingOf (a .iterations) (a .reason)) (start .pre .0 .0) (omega (arith, reason-le (a .reason))),
+      )
 
 heading-requires : tie.Need-heading-requires
 heading-requires c κs = search needs
 
 position-lines-requires : tie.Need-position-lines-requires
 position-lines-requires c κs =
-    let a = c .before .before .before .before .before .before .before .before in
-    let written = c .before .before .before .heading .ensures in
-    (a .pre .1 .0, omega (arith, heading-end (c .before .before .before), wrote-length written, a .pre .0 .1, a .pre .1 .0 .0, a .pre .1 .1))
+    let first = c .before .before .before in
+    let pre = start first .pre in (
+      pre .1 .0,
+      omega (arith, heading-end first, wrote-length (first .heading .ensures), pre .0 .1, pre .1 .0 .0, pre .1 .1),
+    )
 
 same-length : tie.Need-same-length
 same-length c = search needs
@@ -33,9 +43,12 @@ same-length c = search needs
 returns : tie.Need-returns
 unfolding outcomeText
 returns c =
-    let a = c .before .before .before .before .before .before .before .before .before .before .before in
-    let written = c .before .before .position-lines .ensures in
-    (wrote-then (c .before .before .before .before .before .before .heading .ensures) written, omega (arith, written .next-is, heading-end (c .before .before .before .before .before .before), a .pre .1 .0 .0, a .pre .1 .1))
+    let first = c .before .before .before .before .before .before in
+    let pre = start first .pre in
+    let written = c .before .before .position-lines .ensures in (
+      wrote-then (first .heading .ensures) written,
+      omega (arith, written .next-is, heading-end first, pre .1 .0 .0, pre .1 .1),
+    )
 
 pub outcome-spec : {M : Type 1} → statement M
 outcome-spec = tie.close (tie.spec heading-requires position-lines-requires same-length returns)

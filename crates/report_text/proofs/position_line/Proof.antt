@@ -17,11 +17,13 @@ use Rattle.format.proofs.line.Reads as line-reads
 
 values : (s : tie.Start) →
     let a = s .args in
-    widenedValues (a .position) (a .soft) (a .mark) (a .coded-soft) (a .coded-mark) ≡ positionValues (a .position) (a .soft) (a .mark) (a .coded-soft) (a .coded-mark)
+    widenedValues (a .position) (a .soft) (a .mark) (a .coded-soft) (a .coded-mark)
+    ≡ positionValues (a .position) (a .soft) (a .mark) (a .coded-soft) (a .coded-mark)
 values s =
     let a = s .args in
     values-widened (a .position) (a .soft) (a .mark) (a .coded-soft) (a .coded-mark)
-    (omega (arith, s .pre .0)) (s .fits .soft) (omega (arith, s .fits .mark)) (s .fits .coded-soft) (omega (arith, s .fits .coded-mark))
+    (omega (arith, s .pre .0)) (s .fits .soft) (omega (arith, s .fits .mark)) (s .fits .coded-soft)
+    (omega (arith, s .fits .coded-mark))
 
 cast-t9 : tie.Need-cast-t9
 cast-t9 c = search needs
@@ -51,7 +53,8 @@ returns : tie.Need-returns
 returns c =
     let s = c .before .before .before .before .before .before in
     let called = c .before .before .line in
-    subst (λ (zs : List ℤ). Wrote (s .args .out .now) (s .args .at) (line zs) (called .last .0) (called .result)) (values s) (called .ensures)
+    subst (λ (zs : List ℤ). Wrote (s .args .out .now) (s .args .at) (line zs) (called .last .0) (called .result))
+    (values s) (called .ensures)
 
 pub position-line-spec : {M : Type 1} → statement M
 position-line-spec =

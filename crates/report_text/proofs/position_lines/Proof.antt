@@ -23,42 +23,55 @@ use Rattle.report_text.proofs.position_line.Reads as position-line-read
 abbrev Inv-loop : tie.InvT-loop
 Inv-loop out₀ at n soft mark coded-soft coded-mark end₀ i₀ out end i =
     (i ≤ n)
-    × Writing out₀ at (positionLines (sliceValues soft mark coded-soft coded-mark) n 0) out end (positionLines (sliceValues soft mark coded-soft coded-mark) (n - i) i)
+    × Writing out₀ at (positionLines (sliceValues soft mark coded-soft coded-mark) n 0) out end
+    (positionLines (sliceValues soft mark coded-soft coded-mark) (n - i) i)
 
 abbrev μ-loop : tie.MeasureT-loop
 μ-loop out₀ at n soft mark coded-soft coded-mark end₀ i₀ out end i = n - i
 
 module _ (c : tie.After-shared-slice-known4 Inv-loop μ-loop) where
-  abbrev a : tie.Start Inv-loop μ-loop
-  a = c .before .before .before .before .before .before .before .before .before .before
+  abbrev turn : tie.At-loop Inv-loop μ-loop
+  turn = c .before .before .before .before .before .before
 
-  abbrev at : tie.At-loop Inv-loop μ-loop
-  at = c .before .before .before .before .before .before
+  abbrev start : tie.Start Inv-loop μ-loop
+  start = turn .before .before .before .before
+
+  abbrev i : ℕ
+  i = turn .loop .i
+
+  abbrev n : ℕ
+  n = start .args .n
 
   abbrev all : ℕ → List ℤ
-  all = sliceValues (a .args .soft .now) (a .args .mark .now) (a .args .coded-soft .now) (a .args .coded-mark .now)
+  all =
+      let a = start .args in
+      sliceValues (a .soft .now) (a .mark .now) (a .coded-soft .now) (a .coded-mark .now)
 
   -- the values of the line as the call is handed them
   abbrev handed : List ℤ
   handed =
-      positionValues (at .loop .i) (toZ w16 (ofZ w16 (getD (a .args .soft .now) (at .loop .i) (pos 0)))) (getD (a .args .mark .now) (at .loop .i) 0)
-      (toZ w16 (ofZ w16 (getD (a .args .coded-soft .now) (at .loop .i) (pos 0)))) (getD (a .args .coded-mark .now) (at .loop .i) 0)
+      let a = start .args in
+      positionValues i (toZ w16 (ofZ w16 (getD (a .soft .now) i (pos 0)))) (getD (a .mark .now) i 0)
+      (toZ w16 (ofZ w16 (getD (a .coded-soft .now) i (pos 0)))) (getD (a .coded-mark .now) i 0)
 
-  are-values : handed ≡ all (at .loop .i)
+  are-values : handed ≡ all i
   are-values = rw (
     toZ-ofZ {w = w16} (record { sfits = c .before .before .before .position-line-arg2 .given }),
     toZ-ofZ {w = w16} (record { sfits = c .before .position-line-arg3 .given }),
   )
 
-  next : positionLines all (a .args .n - at .loop .i) (at .loop .i) ≡ line handed ++ positionLines all (a .args .n - (at .loop .i + 1)) (at .loop .i + 1)
-  next = position-lines-next all (a .args .n) (at .loop .i) (omega arith) ∙ ap (λ (zs : List ℤ). line zs ++ positionLines all (a .args .n - (at .loop .i + 1)) (at .loop .i + 1)) (sym are-values)
+  next : positionLines all (n - i) i ≡ line handed ++ positionLines all (n - (i + 1)) (i + 1)
+  next =
+      position-lines-next all n i (omega arith)
+      ∙ ap (λ (zs : List ℤ). line zs ++ positionLines all (n - (i + 1)) (i + 1)) (sym are-values)
 
 loop-holds : tie.Need-loop-holds Inv-loop μ-loop
 loop-holds c =
     let a = c .before .before .before .args in
     let values = sliceValues (a .soft .now) (a .mark .now) (a .coded-soft .now) (a .coded-mark .now) in
-    let all : positionLines values (a .n - 0) 0 ≡ positionLines values (a .n) 0 = ap (λ (k : ℕ). positionLines values k 0) (omega arith) in
-    (omega arith, subst (Writing (a .out .now) (a .at) (positionLines values (a .n) 0) (a .out .now) (a .at)) (sym all) writing-starts)
+    let lines = positionLines values (a .n) 0 in
+    let all : positionLines values (a .n - 0) 0 ≡ lines = ap (λ (k : ℕ). positionLines values k 0) (omega arith) in
+    (omega arith, subst (Writing (a .out .now) (a .at) lines (a .out .now) (a .at)) (sym all) writing-starts)
 
 mul-position-line : tie.Need-mul-position-line Inv-loop μ-loop
 mul-position-line c = omega arith
@@ -79,7 +92,7 @@ shared-slice-read-position-line-2 : tie.Need-shared-slice-read-position-line-2 I
 shared-slice-read-position-line-2 c = omega arith
 
 position-line-requires : tie.Need-position-line-requires Inv-loop μ-loop
-position-line-requires c κs = (omega arith, writing-room (line (handed c)) _ (at c .loop .inv .1) (next c) (a c .pre .1))
+position-line-requires c κs = (omega arith, writing-room (line (handed c)) _ (turn c .loop .inv .1) (next c) (start c .pre .1))
 
 add-i : tie.Need-add-i Inv-loop μ-loop
 add-i c = omega arith
@@ -88,7 +101,9 @@ loop-less : tie.Need-loop-less Inv-loop μ-loop
 loop-less c = omega arith
 
 loop-again : tie.Need-loop-again Inv-loop μ-loop
-loop-again c = (omega arith, writing-next (at (c .before .before .before) .loop .inv .1) (next (c .before .before .before)) (c .before .before .position-line .ensures))
+loop-again c =
+    let call = c .before .before .before in
+    (omega arith, writing-next (turn call .loop .inv .1) (next call) (c .before .before .position-line .ensures))
 
 same-length : tie.Need-same-length Inv-loop μ-loop
 same-length c = writing-length (c .before .loop .inv .1)
@@ -98,7 +113,8 @@ returns c =
     let a = c .before .before .before .before .before .args in
     let values = sliceValues (a .soft .now) (a .mark .now) (a .coded-soft .now) (a .coded-mark .now) in
     let all : c .before .loop .i ≡ a .n = omega arith in
-    writing-ends (c .before .loop .inv .1) (ap (λ (k : ℕ). positionLines values (a .n - k) k) all ∙ position-lines-end values (a .n))
+    writing-ends (c .before .loop .inv .1)
+    (ap (λ (k : ℕ). positionLines values (a .n - k) k) all ∙ position-lines-end values (a .n))
 
 pub position-lines-spec : {M : Type 1} → statement M
 position-lines-spec =

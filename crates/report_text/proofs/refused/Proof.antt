@@ -50,10 +50,12 @@ slice-aggregate-line c = search needs
 
 line-requires : tie.Need-line-requires
 line-requires c κs =
-    let n = c .before .before .before .before .before .before .before in
-    let written = c .before .before .before .before .copy .ensures in
-    let names : c .before .before .before .before .copy .result ≡ 8 = written .next-is in
-    rw (number-is n) (omega (arith, n .before .before .pre, wrote-length written, line-length (pos (number n) ∷ []) (omega (arith, small n))))
+    let copied = c .before .before .before .before in
+    let n = copied .before .before .before in
+    let written = copied .copy .ensures in
+    let names : copied .copy .result ≡ 8 = written .next-is in
+    let short = line-length (pos (number n) ∷ []) (omega (arith, small n)) in
+    rw (number-is n) (omega (arith, n .before .before .pre, wrote-length written, short))
 
 same-length : tie.Need-same-length
 same-length c = search needs
@@ -61,12 +63,16 @@ same-length c = search needs
 returns : tie.Need-returns
 unfolding refusalText
 returns c =
-    let n = c .before .before .before .before .before .before .before .before .before .before in
-    let written = c .before .before .before .before .before .before .before .copy in
-    let line-written = c .before .before .line in
-    let names : written .result ≡ 8 = written .ensures .next-is in
-    let second = subst (λ (z : ℤ). Wrote (written .last .0) (written .result) (line (z ∷ [])) (line-written .last .0) (line-written .result)) (number-is n) (line-written .ensures) in
-    (wrote-then (written .ensures) second, omega (arith, second .next-is, line-length (pos (number n) ∷ []) (omega (arith, small n))))
+    let copied = c .before .before .before .before .before .before .before in
+    let n = copied .before .before .before in
+    let first = copied .copy in
+    let last = c .before .before .line in
+    let names : first .result ≡ 8 = first .ensures .next-is in
+    let second =
+    subst (λ (z : ℤ). Wrote (first .last .0) (first .result) (line (z ∷ [])) (last .last .0) (last .result))
+    (number-is n) (last .ensures) in
+    let short = line-length (pos (number n) ∷ []) (omega (arith, small n)) in
+    (wrote-then (first .ensures) second, omega (arith, second .next-is, short))
 
 pub refused-spec : {M : Type 1} → statement M
 refused-spec =
