@@ -1,5 +1,6 @@
 // What the programs print with: texts, whole numbers, slices, and the number of an answer, to standard output.
-// It sees `calls`, `format` for the size of a number, and C's write. It promises to end; what it prints is compared with the stored output of the programs.
+// It sees `calls`, `format` for the size of a number, and C's write. It promises to end; what it prints is compared
+// with the stored output of the programs.
 use calls::Answer;
 use libc::STDOUT_FILENO;
 

@@ -18,7 +18,8 @@ use Rattle.format.specs.Decimal.{digits, decimal, shown, line}
 pub length-last : (x : List ℕ) (b : ℕ) → length (x ++ (b ∷ [])) ≡ length x + 1
 length-last x b = length-append x (b ∷ [])
 
--- induction by digits: what holds of every number below 10, and of any other where it holds of its tenth, holds of every number
+-- induction by digits: what holds of every number below 10, and of any other where it holds of its tenth, holds of
+-- every number
 pub by-digits : (P : ℕ → Type 0) → ((n : ℕ) → n < 10 → P n) → ((n : ℕ) → 10 ≤ n → P (n / 10) → P n) → (n : ℕ) → P n
 by-digits P small large n = below (suc n) n (omega arith)
   where
@@ -67,9 +68,11 @@ decimal-length k n = by-digits (λ n. (k : ℕ) → n < 10 ^ suc k → length (d
     small : (n : ℕ) → n < 10 → (k : ℕ) → n < 10 ^ suc k → length (decimal n) ≤ suc k
     small n s k h = omega (arith, ap length (decimal-small n s))
 
-    large : (n : ℕ) → 10 ≤ n → ((k : ℕ) → n / 10 < 10 ^ suc k → length (decimal (n / 10)) ≤ suc k) → (k : ℕ) → n < 10 ^ suc k → length (decimal n) ≤ suc k
+    large : (n : ℕ) → 10 ≤ n → ((k : ℕ) → n / 10 < 10 ^ suc k → length (decimal (n / 10)) ≤ suc k) → (k : ℕ)
+        → n < 10 ^ suc k → length (decimal n) ≤ suc k
     large n s tenth zero h = absurd (omega arith)
-    large n s tenth (suc k) h = let l = tenth k (omega (arith, pow-succ' 10 (suc k))) in omega (arith, decimal-longer n s)
+    large n s tenth (suc k) h =
+        let l = tenth k (omega (arith, pow-succ' 10 (suc k))) in omega (arith, decimal-longer n s)
 
 -- a number below 0 is a minus and its size in decimal
 pub shown-negative : (z : ℤ) → ltZ z (pos 0) ≡ true → shown z ≡ 45 ∷ decimal (natAbs z)
@@ -112,7 +115,8 @@ behind-drop zs j = split (ltb j (length zs)) refl
 pub line-next : (zs : List ℤ) (i b : ℕ) → i < length zs → b ≡ cond (ltb (i + 1) (length zs)) 32 10 →
     line (drop i zs) ≡ shown (getD zs i (pos 0)) ++ (b ∷ []) ++ line (drop (i + 1) zs)
 line-next zs i b h e =
-    rw (e ∙ behind-drop zs (i + 1), add-one i, drop-cons zs i (pos 0) h) (line-cons (getD zs i (pos 0)) (drop (suc i) zs))
+    rw (e ∙ behind-drop zs (i + 1), add-one i, drop-cons zs i (pos 0) h)
+    (line-cons (getD zs i (pos 0)) (drop (suc i) zs))
 
 -- behind the last value nothing is left
 pub line-ends : (zs : List ℤ) (i : ℕ) → length zs ≤ i → line (drop i zs) ≡ []

@@ -1,4 +1,5 @@
--- What a function that writes a text leaves: the bytes from a position on, the old contents elsewhere, and the position behind them. Definitions only.
+-- What a function that writes a text leaves: the bytes from a position on, the old contents elsewhere, and the position
+-- behind them. Definitions only.
 use Prim.Native.Nat.{ℕ, _+_}
 use mathlib.Core.Path.{_≡_}
 use mathlib.Core.List.{List}

@@ -19,22 +19,26 @@ module _ {old new : List ℕ} {at next : ℕ} {x : List ℕ} where
   wrote-length w = ap length (w .new-is) ∙ length-sets old at x
 
   -- a second text behind the first
-  pub wrote-then : {last : List ℕ} {end : ℕ} {y : List ℕ} → Wrote old at x new next → Wrote new next y last end → Wrote old at (x ++ y) last end
+  pub wrote-then : {last : List ℕ} {end : ℕ} {y : List ℕ} → Wrote old at x new next → Wrote new next y last end
+      → Wrote old at (x ++ y) last end
   wrote-then {y = y} w v = record {
     new-is = v .new-is ∙ rw (w .new-is) (sym (sets-append old at next x y (w .next-is)));
     next-is = omega (arith, w .next-is, v .next-is, length-append x y);
   }
 
   -- where both have room, the second has room behind the first
-  pub wrote-room : (y : List ℕ) → Wrote old at x new next → at + length (x ++ y) ≤ length old → next + length y ≤ length new
+  pub wrote-room : (y : List ℕ) → Wrote old at x new next → at + length (x ++ y) ≤ length old
+      → next + length y ≤ length new
   wrote-room y w h = omega (arith, w .next-is, wrote-length w, length-append x y)
 
   -- the whole slice afterwards, where the text had room
-  pub wrote-whole : Wrote old at x new next → at + length x ≤ length old → new ≡ take at old ++ x ++ drop (at + length x) old
+  pub wrote-whole : Wrote old at x new next → at + length x ≤ length old
+      → new ≡ take at old ++ x ++ drop (at + length x) old
   wrote-whole w h = w .new-is ∙ sets-eq x old at h
 
 -- a text from the start of the slice on is what stands before the next position
-pub wrote-first : {old new : List ℕ} {next : ℕ} {x : List ℕ} → Wrote old 0 x new next → length x ≤ length old → take next new ≡ x
+pub wrote-first : {old new : List ℕ} {next : ℕ} {x : List ℕ} → Wrote old 0 x new next → length x ≤ length old
+    → take next new ≡ x
 wrote-first {old = old} {x = x} w h =
     let n : 0 + length x ≡ length x = omega arith in
     rw (w .new-is ∙ sets-eq x old 0 (omega arith), w .next-is, n) (take-append-seam x (drop (length x) old))
@@ -58,15 +62,18 @@ writing-starts = record { new-becomes = refl; next-becomes = refl }
 
 module _ {old new : List ℕ} {at next : ℕ} {x : List ℕ} where
   -- a piece is written, and the rest is left
-  pub writing-next : {last rest : List ℕ} {end : ℕ} {y z : List ℕ} → Writing old at x new next rest → rest ≡ y ++ z → Wrote new next y last end →
+  pub writing-next : {last rest : List ℕ} {end : ℕ} {y z : List ℕ} → Writing old at x new next rest → rest ≡ y ++ z
+      → Wrote new next y last end →
       Writing old at x last end z
   writing-next {rest = rest} {end = end} {y = y} {z = z} u e w = record {
-    new-becomes = rw (w .new-is) (sym (sets-append new next end y z (w .next-is)) ∙ ap (sets new next) (sym e) ∙ u .new-becomes);
+    new-becomes =
+        rw (w .new-is) (sym (sets-append new next end y z (w .next-is)) ∙ ap (sets new next) (sym e) ∙ u .new-becomes);
     next-becomes = omega (arith, w .next-is, u .next-becomes, ap length e ∙ length-append y z);
   }
 
   -- one byte is written, and the rest is left
-  pub writing-byte : {rest z : List ℕ} {b end : ℕ} → Writing old at x new next rest → rest ≡ b ∷ z → end ≡ next + 1 → Writing old at x (set new next b) end z
+  pub writing-byte : {rest z : List ℕ} {b end : ℕ} → Writing old at x new next rest → rest ≡ b ∷ z → end ≡ next + 1
+      → Writing old at x (set new next b) end z
   writing-byte {b = b} u e h = writing-next {y = b ∷ []} u e (record { new-is = refl; next-is = h })
 
   -- at the end nothing is left
@@ -81,5 +88,7 @@ module _ {old new : List ℕ} {at next : ℕ} {x : List ℕ} where
   writing-length {rest = rest} u = sym (length-sets new next rest) ∙ ap length (u .new-becomes) ∙ length-sets old at x
 
   -- where the whole text had room, the next piece has room
-  pub writing-room : {rest : List ℕ} (y z : List ℕ) → Writing old at x new next rest → rest ≡ y ++ z → at + length x ≤ length old → next + length y ≤ length new
-  writing-room {rest = rest} y z u e h = omega (arith, u .next-becomes, writing-length u, ap length e ∙ length-append y z)
+  pub writing-room : {rest : List ℕ} (y z : List ℕ) → Writing old at x new next rest → rest ≡ y ++ z
+      → at + length x ≤ length old → next + length y ≤ length new
+  writing-room {rest = rest} y z u e h =
+      omega (arith, u .next-becomes, writing-length u, ap length e ∙ length-append y z)

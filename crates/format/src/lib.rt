@@ -1,6 +1,6 @@
 // Writes numbers, lines of values and fixed texts as bytes into a lent slice.
-// It sees `calls` for its laws. Each function promises the bytes that the definitions of specs/ give, from the position handed in on, the old contents
-// elsewhere, and the position behind them. All that it asks for is the room.
+// It sees `calls` for its laws. Each function promises the bytes that the definitions of specs/ give, from the position
+// handed in on, the old contents elsewhere, and the position behind them. All that it asks for is the room.
 ghost use mathlib.Core.Path.{_≡_};
 ghost use mathlib.Core.Bool.{cond};
 ghost use mathlib.Core.List.{[], _∷_, _++_};

@@ -1,4 +1,5 @@
-// Accepted texts: document 01's input, the blocks that it works by hand, other ways to write the same values, and values at the ends of their ranges.
+// Accepted texts: document 01's input, the blocks that it works by hand, other ways to write the same values, and
+// values at the ends of their ranges.
 ghost use Prim.Native.Nat.{_≤_};
 ghost use lib.ListN.{length};
 use crate::say;

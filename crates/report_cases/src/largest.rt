@@ -1,5 +1,6 @@
 // The largest block: 1,024 positions, the first half frozen, with LLRs of the largest size.
-// Its output is too long to print whole: what is shown is the number of its bytes, a checksum, and its first three lines.
+// Its output is too long to print whole: what is shown is the number of its bytes, a checksum, and its first three
+// lines.
 ghost use mathlib.Core.Path.{_≡_};
 ghost use Prim.Native.Nat.{_+_, _<_, _≤_};
 ghost use lib.ListN.{length};

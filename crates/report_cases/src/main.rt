@@ -1,4 +1,5 @@
-// Texts through the report, as it is compiled: accepted ones, every refusal that a text can cause, every kind of malformed text, and the largest ones.
+// Texts through the report, as it is compiled: accepted ones, every refusal that a text can cause, every kind of
+// malformed text, and the largest ones.
 // For each text a line says what it shows; the report's output follows.
 mod accepted;
 mod largest;

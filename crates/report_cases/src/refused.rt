@@ -1,5 +1,5 @@
-// Every refusal that a text of the right form can cause. Values that a narrow number would hold as an accepted one (257 in 8 bits, 65539 in 16) are refused
-// as any other.
+// Every refusal that a text of the right form can cause. Values that a narrow number would hold as an accepted one (257
+// in 8 bits, 65539 in 16) are refused as any other.
 ghost use Prim.Native.Nat.{_≤_};
 ghost use lib.ListN.{length};
 use crate::say;

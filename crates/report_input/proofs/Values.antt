@@ -1,4 +1,5 @@
--- The values of a line as the code tests and narrows them: a signed 32-bit number z is `toZ w32 (ofZ w32 z)` there, which is z where z fits.
+-- The values of a line as the code tests and narrows them: a signed 32-bit number z is `toZ w32 (ofZ w32 z)` there,
+-- which is z where z fits.
 use Prim.Native.Nat.{ℕ, suc, _<_, _≤_, min}
 use mathlib.Core.Path.{_≡_, refl, sym, ap}
 use mathlib.Core.Bool.{Bool, true, false, true≢false}

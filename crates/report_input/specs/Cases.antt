@@ -43,7 +43,8 @@ pub accepted : map meaning (
 unfolding digits natural number spaces separator line literal head positionLine positionLines meaning
 accepted = refl
 
--- the refusals by the line of the settings: each value -1, then one that would lie in its range if it wrapped at 8 or 16 bits
+-- the refusals by the line of the settings: each value -1, then one that would lie in its range if it wrapped at 8 or
+-- 16 bits
 pub settings-numbers : map (λ settings. numberIn (meaning (of settings pair))) (
     bytes "-1 31 16 10 1 0\n"
     ∷ bytes "1 -1 16 10 1 0\n"

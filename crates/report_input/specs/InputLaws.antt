@@ -54,15 +54,19 @@ use Rattle.report_input.specs.declared.Input.the-variants.{Accepted, Ref
 -- ---- one line
 
 pub position-line-found : (p : ℕ) (zs : List ℤ) (s t : List ℕ) → line 3 s ≡ found (take 3 zs) t
-    → positionLine p s ≡ cond (eqb (unsigned (valueAt zs 0)) p) (found (record { frozen = maskValue (valueAt zs 1); llr = llrValue (valueAt zs 2) }) t) malformed
+    → positionLine p s
+    ≡ cond (eqb (unsigned (valueAt zs 0)) p)
+    (found (record { frozen = maskValue (valueAt zs 1); llr = llrValue (valueAt zs 2) }) t) malformed
 unfolding positionLine
-position-line-found p zs s t e = rw (e, getD-take 3 zs 0 (pos 0) (lit< tt), getD-take 3 zs 1 (pos 0) (lit< tt), getD-take 3 zs 2 (pos 0) (lit< tt))
+position-line-found p zs s t e =
+    rw (e, getD-take 3 zs 0 (pos 0) (lit< tt), getD-take 3 zs 1 (pos 0) (lit< tt), getD-take 3 zs 2 (pos 0) (lit< tt))
 
 pub position-line-malformed : (p : ℕ) (s : List ℕ) → line 3 s ≡ malformed → positionLine p s ≡ malformed
 unfolding positionLine
 position-line-malformed p s e = rw e
 
-pub head-found : (t second third behind : List ℕ) (zs : List ℤ) → literal settingNames t ≡ found tt second → line 6 second ≡ found (take 6 zs) third
+pub head-found : (t second third behind : List ℕ) (zs : List ℤ) → literal settingNames t ≡ found tt second
+    → line 6 second ≡ found (take 6 zs) third
     → literal positionNames third ≡ found tt behind → head t ≡ found (settingsOf zs) behind
 unfolding head
 head-found t second third behind zs one two three =
@@ -82,11 +86,13 @@ pub head-first : (t : List ℕ) → literal settingNames t ≡ malformed → hea
 unfolding head
 head-first t one = rw one
 
-pub head-second : (t second : List ℕ) → literal settingNames t ≡ found tt second → line 6 second ≡ malformed → head t ≡ malformed
+pub head-second : (t second : List ℕ) → literal settingNames t ≡ found tt second → line 6 second ≡ malformed
+    → head t ≡ malformed
 unfolding head
 head-second t second one two = rw (one, two)
 
-pub head-third : (t second third : List ℕ) (zs : List ℤ) → literal settingNames t ≡ found tt second → line 6 second ≡ found zs third
+pub head-third : (t second third : List ℕ) (zs : List ℤ) → literal settingNames t ≡ found tt second
+    → line 6 second ≡ found zs third
     → literal positionNames third ≡ malformed → head t ≡ malformed
 unfolding head
 head-third t second third zs one two three = rw (one, two, three)
@@ -105,14 +111,18 @@ prefixed-empty malformed = refl
 prefixed-empty (found b s) = refl
 
 prefixed-position : (mask : List ℕ) (llr : List ℤ) (r : PositionInput) (R : Reading Block)
-    → prefixed mask llr (bind R (λ b s. found (above r b) s)) ≡ prefixed (mask ++ (r .frozen ∷ [])) (llr ++ (r .llr ∷ [])) R
+    → prefixed mask llr (bind R (λ b s. found (above r b) s))
+    ≡ prefixed (mask ++ (r .frozen ∷ [])) (llr ++ (r .llr ∷ [])) R
 prefixed-position mask llr r malformed = refl
-prefixed-position mask llr r (found b s) = rw (append-assoc mask (r .frozen ∷ []) (b .mask), append-assoc llr (r .llr ∷ []) (b .llr))
+prefixed-position mask llr r (found b s) =
+    rw (append-assoc mask (r .frozen ∷ []) (b .mask), append-assoc llr (r .llr ∷ []) (b .llr))
 
 -- where i of n lines are read: one more
-pub position-lines-next : (n i : ℕ) (mask : List ℕ) (llr : List ℤ) (s t : List ℕ) (r : PositionInput) → i < n → n ≤ length mask → n ≤ length llr → positionLine i s ≡ found r t
+pub position-lines-next : (n i : ℕ) (mask : List ℕ) (llr : List ℤ) (s t : List ℕ) (r : PositionInput) → i < n
+    → n ≤ length mask → n ≤ length llr → positionLine i s ≡ found r t
     → prefixed (take i mask) (take i llr) (positionLines (n - i) i s)
-    ≡ prefixed (take (i + 1) (set mask i (r .frozen))) (take (i + 1) (set llr i (r .llr))) (positionLines (n - (i + 1)) (i + 1) t)
+    ≡ prefixed (take (i + 1) (set mask i (r .frozen))) (take (i + 1) (set llr i (r .llr)))
+    (positionLines (n - (i + 1)) (i + 1) t)
 unfolding positionLines
 position-lines-next n i mask llr s t r h mask-long llr-long e =
     let left : n - i ≡ suc (n - suc i) = omega arith in
@@ -120,12 +130,14 @@ position-lines-next n i mask llr s t r h mask-long llr-long e =
     (prefixed-position (take i mask) (take i llr) r (positionLines (n - suc i) (suc i) t))
 
 -- no line of the next position
-pub position-lines-stop : (n i : ℕ) (mask : List ℕ) (llr : List ℤ) (s : List ℕ) → i < n → positionLine i s ≡ malformed → prefixed mask llr (positionLines (n - i) i s) ≡ malformed
+pub position-lines-stop : (n i : ℕ) (mask : List ℕ) (llr : List ℤ) (s : List ℕ) → i < n → positionLine i s ≡ malformed
+    → prefixed mask llr (positionLines (n - i) i s) ≡ malformed
 unfolding positionLines
 position-lines-stop n i mask llr s h e = let left : n - i ≡ suc (n - suc i) = omega arith in rw (left, e)
 
 -- no line left
-pub position-lines-end : (n : ℕ) (mask : List ℕ) (llr : List ℤ) (s : List ℕ) → prefixed mask llr (positionLines (n - n) n s) ≡ found (blockOf mask llr) s
+pub position-lines-end : (n : ℕ) (mask : List ℕ) (llr : List ℤ) (s : List ℕ)
+    → prefixed mask llr (positionLines (n - n) n s) ≡ found (blockOf mask llr) s
 unfolding positionLines
 position-lines-end n mask llr s = let left : n - n ≡ 0 = omega arith in rw (left, append-nil mask, append-nil llr)
 
@@ -145,7 +157,8 @@ unfolding positionLines
 position-lines-long zero p s = record { mask-long = refl; llr-long = refl }
 position-lines-long (suc n) p s = first (positionLine p s) (λ s. position-lines-long n (suc p) s)
   where
-    more : (r : PositionInput) (R : Reading Block) → Each (Long n) R → Each (Long (suc n)) (bind R (λ b s. found (above r b) s))
+    more : (r : PositionInput) (R : Reading Block) → Each (Long n) R
+        → Each (Long (suc n)) (bind R (λ b s. found (above r b) s))
     more r malformed h = tt
     more r (found b s) h = record { mask-long = ap suc (h .mask-long); llr-long = ap suc (h .llr-long) }
 
@@ -218,7 +231,8 @@ number-positive : (r : Refusal) → 0 ≡ refusalNumber r → ⊥
 number-positive r e =
     let one : 1 ≡ refusalNumber r = ap (λ (n : ℕ). andThen n 1) e ∙ refused-first r 1 in omega arith
 
-pub refused-block : (r : Refusal) (means : Meaning) → refusalNumber r ≡ numberIn means → means ≡ refused (refusalNumber r)
+pub refused-block : (r : Refusal) (means : Meaning) → refusalNumber r ≡ numberIn means
+    → means ≡ refused (refusalNumber r)
 refused-block r (refused number) e = ap refused (sym e)
 refused-block r (block s b) e = absurd (number-positive r (sym e))
 

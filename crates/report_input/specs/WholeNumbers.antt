@@ -1,8 +1,8 @@
--- The decoder's numbers for the values of a text as they are written, of any size and either sign; and that reading them into bytes, 16 bits and unsigned
--- numbers changes none of these numbers.
+-- The decoder's numbers for the values of a text as they are written, of any size and either sign; and that reading
+-- them into bytes, 16 bits and unsigned numbers changes none of these numbers.
 use Prim.Native.Nat.{ℕ, zero, suc, _+_, _^_, _*_, _≤_, _<_, min}
 use mathlib.Core.Path.{_≡_, refl, sym, ap, ap₂, _∙_}
-use mathlib.Core.Bool.{Bool, true, false, _&&_, _||_, true≢false}
+use mathlib.Core.Bool.{Bool, true, false, _&&_, _||_, and-false, true≢false}
 use mathlib.Core.List.{List, [], _∷_, map}
 use native.Mathlib.Nat.{add-zero, mul-le-mul}
 use native.Mathlib.Omega.{arith}
@@ -35,13 +35,13 @@ inRange low high (pos n) = between low high n
 inRange low high (negsuc n) = false
 
 -- of the first n values
-abbrev pub every : ℕ → (ℤ → Bool) → List ℤ → Bool
-every zero P l = true
-every (suc n) P l = every n P l && P (getD l n (pos 0))
+abbrev pub allOf : ℕ → (ℤ → Bool) → List ℤ → Bool
+allOf zero P l = true
+allOf (suc n) P l = allOf n P l && P (getD l n (pos 0))
 
-abbrev pub some : ℕ → (ℤ → Bool) → List ℤ → Bool
-some zero P l = false
-some (suc n) P l = some n P l || P (getD l n (pos 0))
+abbrev pub anyOf : ℕ → (ℤ → Bool) → List ℤ → Bool
+anyOf zero P l = false
+anyOf (suc n) P l = anyOf n P l || P (getD l n (pos 0))
 
 abbrev pub operandInRange : ℕ → ℤ → ℤ → Bool
 operandInRange C (pos zero) operand = inRange 0 0 operand
@@ -59,15 +59,11 @@ wholeNumber zs mask llr =
     (check (inRange 1 200 (valueAt zs 3)) 4
     (check (inRange 0 3 (valueAt zs 4)) 5
     (check (operandInRange (natAbs (valueAt zs 1)) (valueAt zs 4) (valueAt zs 5)) 6
-    (check (every (2 ^ natAbs (valueAt zs 0)) (inRange 0 1) mask) 8
-    (check (some (2 ^ natAbs (valueAt zs 0)) (inRange 0 0) mask) 9
-    (check (every (2 ^ natAbs (valueAt zs 0)) (λ l. leb (natAbs l) (natAbs (valueAt zs 1))) llr) 10 0))))))))
+    (check (allOf (2 ^ natAbs (valueAt zs 0)) (inRange 0 1) mask) 8
+    (check (anyOf (2 ^ natAbs (valueAt zs 0)) (inRange 0 0) mask) 9
+    (check (allOf (2 ^ natAbs (valueAt zs 0)) (λ l. leb (natAbs l) (natAbs (valueAt zs 1))) llr) 10 0))))))))
 
 -- ---- one value
-
-and-false : (b : Bool) → b && false ≡ false
-and-false true = refl
-and-false false = refl
 
 range-whole : (low high : ℕ) (z : ℤ) → high < outsideRanges → between low high (unsigned z) ≡ inRange low high z
 range-whole low high (pos n) h = refl
@@ -100,7 +96,8 @@ mask-bit : (z : ℤ) → leb (maskValue z) 1 ≡ inRange 0 1 z
 mask-bit (pos zero) = refl
 mask-bit (pos (suc zero)) = refl
 mask-bit (pos (suc (suc n))) =
-    lt-leb (min (suc (suc n)) 255) 1 (omega arith) ∙ sym (rw (lt-leb (suc (suc n)) 1 (omega arith)) (and-false (leb 0 (suc (suc n)))))
+    lt-leb (min (suc (suc n)) 255) 1 (omega arith)
+    ∙ sym (rw (lt-leb (suc (suc n)) 1 (omega arith)) (and-false (leb 0 (suc (suc n)))))
 mask-bit (negsuc n) = refl
 
 mask-zero : (z : ℤ) → byKind (maskValue z) true false ≡ inRange 0 0 z
@@ -121,15 +118,19 @@ llr-size C z h = ap (λ (n : ℕ). leb n C) (size-flipped (isNegative z) (pos (m
       where
         either : (small : Bool) → leb n 32767 ≡ small → leb (min n 32767) C ≡ leb n C
         either true e = let le : n ≤ 32767 = leb-true n 32767 e in let same : min n 32767 ≡ n = omega arith in rw same
-        either false e = let gt : 32767 < n = leb-false n 32767 e in lt-leb (min n 32767) C (omega arith) ∙ sym (lt-leb n C (omega arith))
+        either false e =
+            let gt : 32767 < n = leb-false n 32767 e in
+            lt-leb (min n 32767) C (omega arith) ∙ sym (lt-leb n C (omega arith))
 
 -- ---- the first n values
 
-mask-bits : (n : ℕ) (mask : List ℤ) → areBits n (map maskValue mask) ≡ every n (inRange 0 1) mask
+mask-bits : (n : ℕ) (mask : List ℤ) → areBits n (map maskValue mask) ≡ allOf n (inRange 0 1) mask
 mask-bits zero mask = refl
-mask-bits (suc n) mask = ap₂ _&&_ (mask-bits n mask) (ap (λ (k : ℕ). leb k 1) (List·getD-map maskValue mask n (pos 0)) ∙ mask-bit (getD mask n (pos 0)))
+mask-bits (suc n) mask =
+    ap₂ _&&_ (mask-bits n mask)
+    (ap (λ (k : ℕ). leb k 1) (List·getD-map maskValue mask n (pos 0)) ∙ mask-bit (getD mask n (pos 0)))
 
-mask-some : (n : ℕ) (mask : List ℤ) → leb 1 (informationCount (map maskValue mask) n) ≡ some n (inRange 0 0) mask
+mask-some : (n : ℕ) (mask : List ℤ) → leb 1 (informationCount (map maskValue mask) n) ≡ anyOf n (inRange 0 0) mask
 mask-some zero mask = refl
 mask-some (suc n) mask =
     rw (List·getD-map maskValue mask n (pos 0), ← mask-some n mask, ← mask-zero (getD mask n (pos 0)))
@@ -141,16 +142,14 @@ mask-some (suc n) mask =
     one-more (suc c) zero = le-leb 1 (suc c + 1) (omega arith) ∙ sym (rw (le-leb 1 (suc c) (omega arith)))
     one-more (suc c) (suc k) = rw (add-zero (suc c), le-leb 1 (suc c) (omega arith))
 
-llr-sizes : (n C : ℕ) (llr : List ℤ) → C ≤ 2047 → withinCeiling n C (map llrValue llr) ≡ every n (λ l. leb (natAbs l) C) llr
+llr-sizes : (n C : ℕ) (llr : List ℤ) → C ≤ 2047
+    → withinCeiling n C (map llrValue llr) ≡ allOf n (λ l. leb (natAbs l) C) llr
 llr-sizes zero C llr h = refl
 llr-sizes (suc n) C llr h =
-    ap₂ _&&_ (llr-sizes n C llr h) (ap (λ (z : ℤ). leb (natAbs z) C) (List·getD-map llrValue llr n (pos 0)) ∙ llr-size C (getD llr n (pos 0)) h)
+    ap₂ _&&_ (llr-sizes n C llr h)
+    (ap (λ (z : ℤ). leb (natAbs z) C) (List·getD-map llrValue llr n (pos 0)) ∙ llr-size C (getD llr n (pos 0)) h)
 
 -- ---- the whole chain of tests
-
-both-true : (a b : Bool) → a ≡ true → b ≡ true → a && b ≡ true
-both-true true b e f = f
-both-true false b e f = e
 
 room-fits : (m n k : ℕ) → m ≤ 10 → n ≡ 2 ^ m → k ≡ 2 ^ m → slicesFit m n k largest ≡ true
 room-fits m n k h e f =
@@ -172,7 +171,8 @@ next-test false true number x y z e same = absurd (true≢false (sym e))
 next-test false false number x y z e same = refl
 
 -- the number of a block read from a text is that of the whole numbers in the text
-pub compared-whole : (zs mask llr : List ℤ) → length mask ≡ 2 ^ natAbs (valueAt zs 0) → length llr ≡ 2 ^ natAbs (valueAt zs 0)
+pub compared-whole : (zs mask llr : List ℤ) → length mask ≡ 2 ^ natAbs (valueAt zs 0)
+    → length llr ≡ 2 ^ natAbs (valueAt zs 0)
     → decodeNumber (settingsOf zs) (map maskValue mask) (map llrValue llr) largest ≡ wholeNumber zs mask llr
 compared-whole zs mask llr mask-long llr-long =
     next-test _ _ 0 _ _ _ (range-whole 1 10 (valueAt zs 0) (lit< tt)) (λ one.
@@ -186,7 +186,8 @@ compared-whole zs mask llr mask-long llr-long =
     let C : unsigned (valueAt zs 1) ≡ natAbs (valueAt zs 1) = in-range 1 2047 (valueAt zs 1) two in
     let C-range : (1 ≤ natAbs (valueAt zs 1)) × (natAbs (valueAt zs 1) ≤ 2047) =
     between-passed 1 2047 (natAbs (valueAt zs 1)) (rw (← C) (range-whole 1 2047 (valueAt zs 1) (lit< tt) ∙ two)) in
-    let operand : operandFits (unsigned (valueAt zs 1)) (unsigned (valueAt zs 4)) (unsigned (valueAt zs 5)) ≡ operandInRange (natAbs (valueAt zs 1)) (valueAt zs 4) (valueAt zs 5) =
+    let operand : operandFits (unsigned (valueAt zs 1)) (unsigned (valueAt zs 4)) (unsigned (valueAt zs 5))
+    ≡ operandInRange (natAbs (valueAt zs 1)) (valueAt zs 4) (valueAt zs 5) =
     rw C (operand-whole (natAbs (valueAt zs 1)) (valueAt zs 4) (valueAt zs 5) (omega arith) five) in
     next-test _ _ 5 _ _ _ operand (λ six.
     rw (

@@ -1,5 +1,5 @@
--- Numbers as they are widened to signed 32 bits: the code's view of a number z is `toZ w32 (ofZ w32 z)`, which is z where
--- z fits.
+-- Numbers as they are widened to signed 32 bits: the code's view of a number z is `toZ w32 (ofZ w32 z)`, which is z
+-- where z fits.
 use Prim.Native.Nat.{ℕ, _<_, _≤_, _^_}
 use mathlib.Core.Path.{_≡_}
 use mathlib.Core.List.{List, [], _∷_}

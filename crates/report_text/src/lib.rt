@@ -1,7 +1,7 @@
 // The report: from the bytes of a text to the bytes of its outcome.
-// It sees `report_input`, `decoder` and `format`. It promises the text that document 01 gives, for every byte string, from
-// the first byte of the lent array on, its old contents behind, and the text's length. The array has room for every
-// outcome.
+// It sees `report_input`, `decoder` and `format`. It promises the text that document 01 gives, for every byte string,
+// from the first byte of the lent array on, its old contents behind, and the text's length. The array has room for
+// every outcome.
 ghost use mathlib.Core.Path.{_≡_};
 ghost use Prim.Native.Nat.{_+_, _*_, _≤_, _^_};
 ghost use lib.ListN.{length};
@@ -130,7 +130,8 @@ fn decoded(out: &mut [u8], settings: Settings, mask: &[u8], llr: &[i16], work: &
     requires { ⌜ Fit settings (blockOf (now mask) (now llr)) ⌝ }
     requires { ⌜ (length (now work) ≡ mostWorkspace) × (reportRoom ≤ length (now out)) ⌝ }
     ensures { λ r. ⌜ Wrote (now (out .entry)) 0
-        (blockText settings (blockOf (now (mask .entry)) (now (llr .entry))) (now (work .entry))) (now (out .exit)) r ⌝ }
+        (blockText settings (blockOf (now (mask .entry)) (now (llr .entry))) (now (work .entry)))
+        (now (out .exit)) r ⌝ }
     ensures { λ r. ⌜ r ≤ reportRoom ⌝ }
 {
     let mut soft = [0i16; MOST_POSITIONS];

@@ -1,4 +1,5 @@
--- Document 01, "The report's text": a line of values, "parted by one or more spaces, none at either end", ended by byte 10; and a fixed text. Definitions only.
+-- Document 01, "The report's text": a line of values, "parted by one or more spaces, none at either end", ended by byte
+-- 10; and a fixed text. Definitions only.
 use Prim.Native.Nat.{ℕ, zero, suc}
 use mathlib.Core.Bool.{cond}
 use mathlib.Core.List.{List, [], _∷_}
@@ -12,7 +13,8 @@ unfoldable pub spaces : List ℕ → List ℕ
 spaces [] = []
 spaces (b ∷ s) = cond (eqb b 32) (spaces s) (b ∷ s)
 
--- what stands behind a value with n more to come in its line: byte 10 behind the last, one or more spaces behind any other
+-- what stands behind a value with n more to come in its line: byte 10 behind the last, one or more spaces behind any
+-- other
 unfoldable pub separator : ℕ → List ℕ → Reading Unit
 separator zero s = cond (eqb (first s) 10) (found tt (rest s)) malformed
 separator (suc n) s = cond (eqb (first s) 32) (found tt (spaces s)) malformed

@@ -1,4 +1,5 @@
--- The definitions at the text from a position on, in the terms of a reader that keeps a position; and the sizes of what is read.
+-- The definitions at the text from a position on, in the terms of a reader that keeps a position; and the sizes of what
+-- is read.
 use Prim.Native.Nat.{ℕ, zero, suc, _+_, _-_, _*_, _<_, _≤_}
 use mathlib.Core.Path.{_≡_, refl, sym, ap, _∙_}
 use mathlib.Core.Bool.{Bool, true, false, cond, _&&_, true≢false}
@@ -18,7 +19,8 @@ use Rattle.scan.specs.Lines.{spaces, separator, line, literal}
 -- ---- one reading after another
 
 module _ {A B : Type 0} where
-  pub bind-of-found : {r : Reading A} {a : A} {s : List ℕ} (next : A → List ℕ → Reading B) → r ≡ found a s → bind r next ≡ next a s
+  pub bind-of-found : {r : Reading A} {a : A} {s : List ℕ} (next : A → List ℕ → Reading B) → r ≡ found a s
+      → bind r next ≡ next a s
   bind-of-found next e = rw e
 
   pub bind-of-malformed : {r : Reading A} (next : A → List ℕ → Reading B) → r ≡ malformed → bind r next ≡ malformed
@@ -104,8 +106,10 @@ unfolding digits
 value-bounds zero v s = (omega arith, omega arith)
 value-bounds (suc k) v s = split (isDigit (first s)) refl (λ w u. value-bounds k w u)
   where
-    split : (b : Bool) → isDigit (first s) ≡ b → ((w : ℕ) (u : List ℕ) → (w ≤ value (digits k w u)) × (value (digits k w u) ≤ largest k w)) →
-        let r = cond b (digits k (10 * v + (first s - 48)) (rest s)) (found v s) in (v ≤ value r) × (value r ≤ largest k (10 * v + 9))
+    split : (b : Bool) → isDigit (first s) ≡ b
+        → ((w : ℕ) (u : List ℕ) → (w ≤ value (digits k w u)) × (value (digits k w u) ≤ largest k w)) →
+        let r = cond b (digits k (10 * v + (first s - 48)) (rest s)) (found v s) in
+        (v ≤ value r) × (value r ≤ largest k (10 * v + 9))
     split true e bounds =
         let range = digit-range (first s) e in
         let w = 10 * v + (first s - 48) in
@@ -160,11 +164,13 @@ unfolding spaces
 spaces-end [] e = refl
 spaces-end (b ∷ s) e = rw e
 
-pub separator-last : (i : ℕ) (t : List ℕ) → separator 0 (drop i t) ≡ cond (eqb (first (drop i t)) 10) (found tt (drop (i + 1) t)) malformed
+pub separator-last : (i : ℕ) (t : List ℕ)
+    → separator 0 (drop i t) ≡ cond (eqb (first (drop i t)) 10) (found tt (drop (i + 1) t)) malformed
 unfolding separator
 separator-last i t = rw (rest-drop i t)
 
-pub separator-more : (n : ℕ) (s : List ℕ) → (n ≡ 0 → ⊥) → separator n s ≡ cond (eqb (first s) 32) (found tt (spaces s)) malformed
+pub separator-more : (n : ℕ) (s : List ℕ) → (n ≡ 0 → ⊥)
+    → separator n s ≡ cond (eqb (first s) 32) (found tt (spaces s)) malformed
 unfolding separator
 separator-more zero s h = absurd (h refl)
 separator-more (suc n) s h = refl
@@ -172,11 +178,13 @@ separator-more (suc n) s h = refl
 -- ---- fixed texts
 
 pub literal-next : (name : List ℕ) (i : ℕ) (t : List ℕ) (p : ℕ) → i < length name → p < length t →
-    literal (drop i name) (drop p t) ≡ cond (eqb (getD name i 0) (getD t p 0)) (literal (drop (i + 1) name) (drop (p + 1) t)) malformed
+    literal (drop i name) (drop p t)
+    ≡ cond (eqb (getD name i 0) (getD t p 0)) (literal (drop (i + 1) name) (drop (p + 1) t)) malformed
 unfolding literal
 literal-next name i t p h g = rw (drop-cons name i 0 h, drop-cons t p 0 g, add-one i, add-one p)
 
-pub literal-short : (name : List ℕ) (i : ℕ) (t : List ℕ) (p : ℕ) → i < length name → length t ≤ p → literal (drop i name) (drop p t) ≡ malformed
+pub literal-short : (name : List ℕ) (i : ℕ) (t : List ℕ) (p : ℕ) → i < length name → length t ≤ p
+    → literal (drop i name) (drop p t) ≡ malformed
 unfolding literal
 literal-short name i t p h g = rw (drop-cons name i 0 h, drop-of-length-le t g)
 
@@ -203,7 +211,8 @@ unfolding line
 line-none zero s h = refl
 line-none (suc n) s h = absurd (omega arith)
 
-line-some : (n : ℕ) (s : List ℕ) → 0 < n → line n s ≡ bind (number s) (λ z u. bind (separator (n - 1) u) (λ _ w. behind (z ∷ []) (line (n - 1) w)))
+line-some : (n : ℕ) (s : List ℕ) → 0 < n
+    → line n s ≡ bind (number s) (λ z u. bind (separator (n - 1) u) (λ _ w. behind (z ∷ []) (line (n - 1) w)))
 unfolding line
 line-some zero s h = absurd (omega arith)
 line-some (suc n) s h = rw (sub-one (suc n))
@@ -231,7 +240,8 @@ unfolding number
 number-size s z u e = split (eqb (first s) 45) e
   where
     split : (minus : Bool) →
-        cond minus (bind (natural (rest s)) (λ n s. found (negℤ (pos n)) s)) (bind (natural s) (λ n s. found (pos n) s)) ≡ found z u → natAbs z ≤ 999999
+        cond minus (bind (natural (rest s)) (λ n s. found (negℤ (pos n)) s)) (bind (natural s) (λ n s. found (pos n) s))
+        ≡ found z u → natAbs z ≤ 999999
     split true e =
         let (n, w, h, g) = bind-found (natural (rest s)) (λ n s. found (negℤ (pos n)) s) z u e in
         let k : negℤ (pos n) ≡ z = cc in rw (← k, size-neg (pos n)) (natural-size (rest s) n w h)
@@ -244,7 +254,8 @@ line-parts : (n : ℕ) (s : List ℕ) (zs : List ℤ) (u : List ℕ) → line (s
     (z : ℤ) × (ys : List ℤ) × (w : List ℕ) × (natAbs z ≤ 999999) × (line n w ≡ found ys u) × (z ∷ ys ≡ zs)
 unfolding line
 line-parts n s zs u e =
-    let (z, v, h, e₁) = bind-found (number s) (λ z s. bind (separator n s) (λ _ s. behind (z ∷ []) (line n s))) zs u e in
+    let (z, v, h, e₁) =
+    bind-found (number s) (λ z s. bind (separator n s) (λ _ s. behind (z ∷ []) (line n s))) zs u e in
     let (_, w, _, e₂) = bind-found (separator n v) (λ _ s. behind (z ∷ []) (line n s)) zs u e₁ in
     let (ys, x, g, e₃) = bind-found (line n w) (λ ys s. found (z ∷ ys) s) zs u e₂ in
     let same : x ≡ u = cc in
@@ -257,7 +268,8 @@ line-length (suc n) s zs u e =
     let (z, ys, w, _, g, h) = line-parts n s zs u e in rw (← h) (ap suc (line-length n w ys u g))
 
 -- every value has at most six digits
-pub line-sizes : (n : ℕ) (s : List ℕ) (zs : List ℤ) (u : List ℕ) → line n s ≡ found zs u → (i : ℕ) → natAbs (getD zs i (pos 0)) ≤ 999999
+pub line-sizes : (n : ℕ) (s : List ℕ) (zs : List ℤ) (u : List ℕ) → line n s ≡ found zs u → (i : ℕ)
+    → natAbs (getD zs i (pos 0)) ≤ 999999
 unfolding line
 line-sizes zero s zs u e i = let h : [] ≡ zs = cc in rw (← h) (none i)
   where

@@ -30,7 +30,8 @@ called t = (digit-reads.Asked, digit-reads.Learnt, natural-below t, natural.Post
 
 module _ (t : ℕ) where
   -- a number below 10 takes one byte
-  one : (c : natural-lts.Then1 (called t) (natural-at t) natural.Post) → length (decimal (c .before .before .args .n)) ≡ 1
+  one : (c : natural-lts.Then1 (called t) (natural-at t) natural.Post)
+      → length (decimal (c .before .before .args .n)) ≡ 1
   one c = ap length (decimal-small (c .before .before .args .n) (omega arith))
 
   -- any other takes one byte more than its tenth
@@ -48,16 +49,19 @@ module _ (t : ℕ) where
   add-result c = omega (arith, one (c .before), c .before .before .before .pre .1)
 
   natural-requires : natural-lts.Need-natural-requires (called t) (natural-at t) natural.Post
-  natural-requires c κs = let p = c .before .before .before .pre in (omega (arith, p .0), omega (arith, longer (c .before), p .1))
+  natural-requires c κs =
+      let p = c .before .before .before .pre in (omega (arith, p .0), omega (arith, longer (c .before), p .1))
 
   digit-requires-2 : natural-lts.Need-digit-requires-2 (called t) (natural-at t) natural.Post
   digit-requires-2 c κs = omega arith
 
   slice-write-out-2 : natural-lts.Need-slice-write-out-2 (called t) (natural-at t) natural.Post
-  slice-write-out-2 c = let e = c .before .before .before .before .before in omega (arith, longer e, e .before .before .pre .1)
+  slice-write-out-2 c =
+      let e = c .before .before .before .before .before in omega (arith, longer e, e .before .before .pre .1)
 
   add-result-2 : natural-lts.Need-add-result-2 (called t) (natural-at t) natural.Post
-  add-result-2 c = let e = c .before .before .before .before .before in omega (arith, longer e, e .before .before .pre .1)
+  add-result-2 c =
+      let e = c .before .before .before .before .before in omega (arith, longer e, e .before .before .pre .1)
 
   same-length : natural-lts.Need-same-length (called t) (natural-at t) natural.Post
   same-length c = search needs

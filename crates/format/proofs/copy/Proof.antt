@@ -52,7 +52,8 @@ same-length : tie.Need-same-length Inv-loop μ-loop
 same-length c = writing-length (c .before .loop .inv .1)
 
 returns : tie.Need-returns Inv-loop μ-loop
-returns c = writing-ends (c .before .loop .inv .1) (drop-of-length-le (c .before .before .args .text .now) (c .loop-test .left))
+returns c =
+    writing-ends (c .before .loop .inv .1) (drop-of-length-le (c .before .before .args .text .now) (c .loop-test .left))
 
 pub copy-spec : {M : Type 1} → statement M
 copy-spec =

@@ -11,7 +11,14 @@ use mir.Val.{toZ, ofZ}
 use mir.Facts.{toZ-ofZ}
 use Rattle.format.specs.Decimal.{shown, line}
 use Rattle.format.specs.DecimalLaws.{line-next, line-ends}
-use Rattle.format.specs.WroteLaws.{Writing, writing-starts, writing-next, writing-ends, writing-length, writing-room}
+use Rattle.format.specs.WroteLaws.{
+  Writing,
+  writing-starts,
+  writing-next,
+  writing-ends,
+  writing-length,
+  writing-room,
+}
 use Rattle.format.proofs.line.Statement.{statement}
 use Rattle.format.proofs.line.Tie as tie
 
@@ -58,7 +65,8 @@ parting-requires c κs = search needs
 value-requires : tie.Need-value-requires Inv-loop μ-loop
 value-requires c κs =
     let l = c .before .before .before .before .loop in
-    rw (known c) (writing-room (piece c) (left c) (l .inv .1) (next c) (c .before .before .before .before .before .before .pre))
+    rw (known c)
+    (writing-room (piece c) (left c) (l .inv .1) (next c) (c .before .before .before .before .before .before .pre))
 
 add-i : tie.Need-add-i Inv-loop μ-loop
 add-i c = omega arith
@@ -76,7 +84,9 @@ same-length : tie.Need-same-length Inv-loop μ-loop
 same-length c = writing-length (c .before .loop .inv .1)
 
 returns : tie.Need-returns Inv-loop μ-loop
-returns c = writing-ends (c .before .loop .inv .1) (line-ends (c .before .before .before .args .zs .now) (c .before .loop .i) (c .loop-test .left))
+returns c =
+    writing-ends (c .before .loop .inv .1)
+    (line-ends (c .before .before .before .args .zs .now) (c .before .loop .i) (c .loop-test .left))
 
 pub line-spec : {M : Type 1} → statement M
 line-spec =

@@ -19,7 +19,8 @@ size-is c = sym (c .size .ensures ∙ ap natAbs (toZ-ofZ (c .before .before .fit
 with-minus : (c : tie.Then1) → shown (c .before .before .before .args .z) ≡ 45 ∷ decimal (c .before .size .result)
 with-minus c =
     let s = c .before .before .before in
-    shown-negative (s .args .z) (rw (toZ-ofZ (s .fits .z)) at (c .if1 .taken)) ∙ ap (λ (n : ℕ). 45 ∷ decimal n) (size-is (c .before))
+    shown-negative (s .args .z) (rw (toZ-ofZ (s .fits .z)) at (c .if1 .taken))
+    ∙ ap (λ (n : ℕ). 45 ∷ decimal n) (size-is (c .before))
 
 without-minus : (c : tie.Else1) → shown (c .before .before .before .args .z) ≡ decimal (c .before .size .result)
 without-minus c =
@@ -42,7 +43,8 @@ natural-requires-2 : tie.Need-natural-requires-2
 natural-requires-2 c κs = omega (arith, ap length (without-minus (c .before)))
 
 returns : tie.Need-returns
-returns c = rw (with-minus (c .before .before .before .before)) (wrote-then wrote-byte (c .before .before .natural .ensures))
+returns c =
+    rw (with-minus (c .before .before .before .before)) (wrote-then wrote-byte (c .before .before .natural .ensures))
 
 same-length : tie.Need-same-length
 same-length c = wrote-length (returns c)

@@ -16,13 +16,18 @@ wrote c = rw (toZ-ofZ (c .before .before .before .fits .z)) at (c .number .ensur
 
 number-requires : tie.Need-number-requires
 number-requires c κs =
-    let s = c .before .before in rw (toZ-ofZ (s .fits .z)) (omega (arith, length-last (shown (s .args .z)) (s .args .behind)))
+    let s = c .before .before in
+    rw (toZ-ofZ (s .fits .z)) (omega (arith, length-last (shown (s .args .z)) (s .args .behind)))
 
 slice-write-out : tie.Need-slice-write-out
-slice-write-out c = let s = c .before .before .before .before .before in omega (arith, wrote-room (s .args .behind ∷ []) (wrote (c .before .before)) (s .pre))
+slice-write-out c =
+    let s = c .before .before .before .before .before in
+    omega (arith, wrote-room (s .args .behind ∷ []) (wrote (c .before .before)) (s .pre))
 
 add-result : tie.Need-add-result
-add-result c = let s = c .before .before .before .before .before in omega (arith, wrote-room (s .args .behind ∷ []) (wrote (c .before .before)) (s .pre))
+add-result c =
+    let s = c .before .before .before .before .before in
+    omega (arith, wrote-room (s .args .behind ∷ []) (wrote (c .before .before)) (s .pre))
 
 same-length : tie.Need-same-length
 same-length c = search needs

@@ -19,7 +19,8 @@ returns : tie.Need-returns
 returns c = below-all (c .before .args .value) (rw (toZ-ofZ (c .before .fits .value)) at (c .if1 .taken))
 
 returns-2 : tie.Need-returns-2
-returns-2 c = above-all (c .before .before .args .value) (rw (toZ-ofZ (c .before .before .fits .value)) at (c .if2 .taken))
+returns-2 c =
+    above-all (c .before .before .args .value) (rw (toZ-ofZ (c .before .before .fits .value)) at (c .if2 .taken))
 
 returns-3 : tie.Need-returns-3
 returns-3 c = rw (toZ-ofZ (c .before .before .fits .value)) (toZ-ofZ (within c .fits) ∙ within c .same)

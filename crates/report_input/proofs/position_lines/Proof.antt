@@ -31,7 +31,8 @@ Inv-loop text at n mask₀ llr₀ i₀ next₀ mask llr i next =
     × (length llr ≡ length llr₀)
     × (drop n mask ≡ drop n mask₀)
     × (drop n llr ≡ drop n llr₀)
-    × (positionLines n 0 (drop at text) ≡ prefixed (take i mask) (take i llr) (positionLines (n - i) i (drop next text)))
+    × (positionLines n 0 (drop at text)
+    ≡ prefixed (take i mask) (take i llr) (positionLines (n - i) i (drop next text)))
 
 abbrev μ-loop : tie.MeasureT-loop
 μ-loop text at n mask₀ llr₀ i₀ next₀ mask llr i next = n - i
@@ -64,7 +65,8 @@ returns c =
     let turn = c .before .before .before .before in
     let a = turn .before .before .before .args in
     let at = turn .loop in
-    let called = c .before .before .position-line .ensures ∙ ap (positionRead (a .text .now)) (c .enum-told .given .1) in
+    let called =
+    c .before .before .position-line .ensures ∙ ap (positionRead (a .text .now)) (c .enum-told .given .1) in
     let stop =
     position-lines-stop (a .n) (at .i) (take (at .i) (at .mask)) (take (at .i) (at .llr))
     (drop (at .next) (a .text .now)) (omega arith) called in

@@ -23,7 +23,8 @@ unsigned-requires c κs = search needs
 returns : tie.Need-returns
 returns c =
     let s = c .before .before in
-    c .unsigned .ensures ∙ ap unsigned (kept (getD (s .args .values .now) (s .args .place) (pos 0)) (c .before .unsigned-arg .given))
+    c .unsigned .ensures
+    ∙ ap unsigned (kept (getD (s .args .values .now) (s .args .place) (pos 0)) (c .before .unsigned-arg .given))
 
 pub setting-spec : {M : Type 1} → statement M
 setting-spec =

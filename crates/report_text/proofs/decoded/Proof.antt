@@ -72,7 +72,8 @@ enum-known-answer-2 : tie.Need-enum-known-answer-2
 enum-known-answer-2 c = search needs
 
 power-of-two-requires : tie.Need-power-of-two-requires
-power-of-two-requires c κs = fit-length (start (c .before .before .before .before .before .before .before .before) .pre .0)
+power-of-two-requires c κs =
+    fit-length (start (c .before .before .before .before .before .before .before .before) .pre .0)
 
 slice-aggregate-outcome : tie.Need-slice-aggregate-outcome
 slice-aggregate-outcome c = search needs
@@ -116,7 +117,8 @@ same-length-2 c = search needs
 returns : tie.Need-returns
 returns c =
     let answer = c .before .before .before .before .before in
-    absurd (not-refused (block (answer .before .before .before .before .before .before .before)) _ (answer .answer .given .1))
+    absurd
+    (not-refused (block (answer .before .before .before .before .before .before .before)) _ (answer .answer .given .1))
 
 same-length-3 : tie.Need-same-length-3
 same-length-3 c = search needs
@@ -130,7 +132,8 @@ returns-2 c =
     let n = written .before .before .before .before .before .before in
     let answer = n .before .before .answer2 .given in
     let same =
-    block-text (block (decoding n)) (n .power-of-two .result) (answer .0 .0) (answer .0 .1 .0) (n .power-of-two .ensures)
+    block-text (block (decoding n)) (n .power-of-two .result) (answer .0 .0) (answer .0 .1 .0)
+    (n .power-of-two .ensures)
     (answer .1) in
     let out = start (decoding n) .args .out .now in
     let r = written .outcome in (

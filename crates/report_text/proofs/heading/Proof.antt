@@ -57,11 +57,11 @@ module _ (c : tie.After-line) where
   abbrev copied : tie.After-copy
   copied = numbered .before .before .before
 
-  second-line : Wrote (copied .copy .last .0) (copied .copy .result) (line (pair numbered)) (c .line .last .0) (c .line .result)
-  second-line =
-      subst (λ (zs : List ℤ).
-      Wrote (copied .copy .last .0) (copied .copy .result) (line zs) (c .line .last .0) (c .line .result))
-      (widened numbered) (c .line .ensures)
+  abbrev Second : List ℤ → Type 0
+  Second zs = Wrote (copied .copy .last .0) (copied .copy .result) (line zs) (c .line .last .0) (c .line .result)
+
+  second-line : Second (pair numbered)
+  second-line = subst Second (widened numbered) (c .line .ensures)
 
 slice-aggregate-copy : tie.Need-slice-aggregate-copy
 slice-aggregate-copy c = search needs

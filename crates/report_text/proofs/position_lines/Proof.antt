@@ -92,7 +92,8 @@ shared-slice-read-position-line-2 : tie.Need-shared-slice-read-position-line-2 I
 shared-slice-read-position-line-2 c = omega arith
 
 position-line-requires : tie.Need-position-line-requires Inv-loop μ-loop
-position-line-requires c κs = (omega arith, writing-room (line (handed c)) _ (turn c .loop .inv .1) (next c) (start c .pre .1))
+position-line-requires c κs =
+    (omega arith, writing-room (line (handed c)) _ (turn c .loop .inv .1) (next c) (start c .pre .1))
 
 add-i : tie.Need-add-i Inv-loop μ-loop
 add-i c = omega arith

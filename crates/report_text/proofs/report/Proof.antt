@@ -117,7 +117,8 @@ returns-2 c =
     let written = c .before .decoded in (
       subst (λ (text : List ℕ). Wrote (start (reading m) .args .out .now) 0 text (written .last .0) (written .result))
           (sym (ap textOf (text m .is))) (written .ensures .0),
-      within (written .ensures .0) (written .ensures .1) (c .before .before .before .before .before .decoded-arg .given .0 .1),
+      within (written .ensures .0) (written .ensures .1)
+          (c .before .before .before .before .before .decoded-arg .given .0 .1),
     )
 
 pub report-spec : {M : Type 1} → statement M
