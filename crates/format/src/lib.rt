@@ -60,7 +60,7 @@ pub fn number(out: &mut [u8], at: usize, z: i32) -> usize
 }
 
 // The byte behind a value: a space where more values follow, or the end of the line.
-fn parting(more: bool) -> u8
+fn separator(more: bool) -> u8
     ensures { λ r. ⌜ r ≡ cond more 32 10 ⌝ }
 {
     if more { 32 } else { 10 }
@@ -84,7 +84,7 @@ pub fn line(out: &mut [u8], at: usize, zs: &[i32]) -> usize
     let mut end = at;
     let mut i: usize = 0;
     while i < zs.len() {
-        end = value(out, end, zs[i], parting(i + 1 < zs.len()));
+        end = value(out, end, zs[i], separator(i + 1 < zs.len()));
         i += 1;
     }
     end

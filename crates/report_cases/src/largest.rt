@@ -66,19 +66,19 @@ fn checksum(bytes: &[u8]) -> u64 {
 // The first three lines of an outcome whose iteration has one digit: 57 bytes. A refusal is shorter and shown whole.
 fn first_lines(output: &[u8]) {
     if output.len() < 57 {
-        say::bytes(output);
+        console::text(output);
     } else {
-        say::bytes(&output[..57]);
+        console::text(&output[..57]);
     }
 }
 
 // An output, shown by its length, a checksum and its first three lines.
 fn summary(output: &[u8]) {
-    say::bytes(b"bytes ");
+    console::text(b"bytes ");
     io::print_decimal(STDOUT_FILENO, output.len() as u64);
-    say::bytes(b" checksum ");
+    console::text(b" checksum ");
     io::print_decimal(STDOUT_FILENO, checksum(output));
-    say::bytes(b"\n");
+    console::text(b"\n");
     first_lines(output);
 }
 

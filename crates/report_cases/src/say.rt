@@ -1,18 +1,12 @@
 // A text through the report: its name, and the report's output as it stands.
 ghost use Prim.Native.Nat.{_≤_};
 ghost use lib.ListN.{length};
-use libc::STDOUT_FILENO;
 use report_text::REPORT_ROOM;
-
-// Bytes as they stand.
-pub fn bytes(bytes: &[u8]) {
-    io::write_all(STDOUT_FILENO, bytes);
-}
 
 // A line that says what the next text shows.
 pub fn name(name: &[u8]) {
-    bytes(name);
-    bytes(b"\n");
+    console::text(name);
+    console::text(b"\n");
 }
 
 // A whole text.
@@ -20,7 +14,7 @@ pub fn report(about: &[u8], text: &[u8]) {
     let mut out = [0u8; REPORT_ROOM];
     name(about);
     let end = report_text::report(text, &mut out);
-    bytes(&out[..end]);
+    console::text(&out[..end]);
 }
 
 // A text with both lines of names: its line of settings and the lines of its positions are handed in.

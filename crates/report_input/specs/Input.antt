@@ -115,8 +115,8 @@ pub data Meaning : Type 0 where
   block : Settings → Block → Meaning
 
 -- room for a block of any length, so that 7 can't be
-abbrev pub largest : Room
-largest =
+abbrev pub largestLengths : Room
+largestLengths =
     record {
       soft = mostPositions;
       mark = mostPositions;
@@ -131,7 +131,7 @@ meaningBy (suc number) s b = refused (suc number)
 
 -- the rest is tested for 14 (nothing follows the last line), then come the decoder's numbers
 abbrev pub tested : Settings → Reading Block → Meaning
-tested s (found b []) = meaningBy (decodeNumber s (b .mask) (b .llr) largest) s b
+tested s (found b []) = meaningBy (decodeNumber s (b .mask) (b .llr) largestLengths) s b
 tested s (found b (x ∷ behind)) = refused 14
 tested s malformed = refused 14
 

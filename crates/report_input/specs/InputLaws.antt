@@ -36,7 +36,7 @@ use Rattle.report_input.specs.Input.{
   Meaning,
   refused,
   block,
-  largest,
+  largestLengths,
   meaningBy,
   tested,
   sized,
@@ -171,10 +171,10 @@ position-lines-long (suc n) p s = first (positionLine p s) (λ s. position-lines
 
 -- its number where there is room for every block
 abbrev blockNumber : Settings → Block → ℕ
-blockNumber s b = decodeNumber s (b .mask) (b .llr) largest
+blockNumber s b = decodeNumber s (b .mask) (b .llr) largestLengths
 
 pub record Fit (s : Settings) (b : Block) : Type 0 where
-  pub number : decodeNumber s (b .mask) (b .llr) largest ≡ 0
+  pub number : decodeNumber s (b .mask) (b .llr) largestLengths ≡ 0
   pub long : Long (2 ^ s .m) b
 
 abbrev pub Means : Meaning → Type 0

@@ -26,7 +26,7 @@ use Rattle.report_input.specs.Input.{
   maskValue,
   llrValue,
   settingsOf,
-  largest,
+  largestLengths,
 }
 
 -- from low to high; a number below zero is in no range
@@ -151,7 +151,7 @@ llr-sizes (suc n) C llr h =
 
 -- ---- the whole chain of tests
 
-room-fits : (m n k : ℕ) → m ≤ 10 → n ≡ 2 ^ m → k ≡ 2 ^ m → slicesFit m n k largest ≡ true
+room-fits : (m n k : ℕ) → m ≤ 10 → n ≡ 2 ^ m → k ≡ 2 ^ m → slicesFit m n k largestLengths ≡ true
 room-fits m n k h e f =
     let small : 2 ^ m ≤ 2 ^ 10 = pow-mono h in
     let columns : 2 * (m + 1) ≤ 22 = omega arith in
@@ -173,7 +173,7 @@ next-test false false number x y z e same = refl
 -- the number of a block read from a text is that of the whole numbers in the text
 pub compared-whole : (zs mask llr : List ℤ) → length mask ≡ 2 ^ natAbs (valueAt zs 0)
     → length llr ≡ 2 ^ natAbs (valueAt zs 0)
-    → decodeNumber (settingsOf zs) (map maskValue mask) (map llrValue llr) largest ≡ wholeNumber zs mask llr
+    → decodeNumber (settingsOf zs) (map maskValue mask) (map llrValue llr) largestLengths ≡ wholeNumber zs mask llr
 compared-whole zs mask llr mask-long llr-long =
     next-test _ _ 0 _ _ _ (range-whole 1 10 (valueAt zs 0) (lit< tt)) (λ one.
     next-test _ _ 1 _ _ _ (range-whole 1 2047 (valueAt zs 1) (lit< tt)) (λ two.

@@ -45,7 +45,7 @@ use Rattle.decoder.specs.ResultLaws.{DecoderAnswer, decoder-answer}
 use Rattle.calls.specs.Texts.{bytes}
 use Rattle.format.specs.Decimal.{line}
 use Rattle.format.specs.DecimalLaws.{line-length}
-use Rattle.report_input.specs.Input.{mostPositions, mostWorkspace, Block, largest}
+use Rattle.report_input.specs.Input.{mostPositions, mostWorkspace, Block, largestLengths}
 use Rattle.report_input.specs.InputLaws.{Fit}
 use Rattle.report_text.specs.Report.{positionLines, outputsOf, outcomeText, blockText}
 use Rattle.report_text.specs.Private.{sliceValues, endingOf, headingText}
@@ -114,7 +114,7 @@ heading-room e h k =
 -- ---- what the decoder leaves for an accepted block
 
 pub fit-length : {s : Settings} {block : Block} → Fit s block → s .m ≤ 10
-fit-length {s} {block} fit = accepted s (block .mask) (block .llr) largest (fit .number) .m-le
+fit-length {s} {block} fit = accepted s (block .mask) (block .llr) largestLengths (fit .number) .m-le
 
 -- how the decoder ends, and its workspace then
 abbrev endingOn : Settings → Block → List ℤ → Ending
@@ -146,13 +146,13 @@ decoded-block {s} {block} {soft} {mark} {codedSoft} {codedMark} {work} fit d sof
     coded-mark-long work-long =
     let number : decodeNumber s (block .mask) (block .llr) (roomOf soft mark codedSoft codedMark work) ≡ 0 =
     rw (soft-long, mark-long, coded-soft-long, coded-mark-long, work-long) (fit .number) in
-    let ok = accepted s (block .mask) (block .llr) largest (fit .number) in
+    let ok = accepted s (block .mask) (block .llr) largestLengths (fit .number) in
     let size : 2 ^ s .m ≤ 2 ^ 10 = pow-mono (ok .m-le) in
     let N = 2 ^ s .m in
     let w = finalOn s block work in
     let e = endingOn s block work in
     let ends = subst DecoderAnswer (ap (λ (n : ℕ). byNumber n e) (fit .number))
-    (decoder-answer s (block .mask) (block .llr) largest work) in
+    (decoder-answer s (block .mask) (block .llr) largestLengths work) in
     record {
       answer = d .answer ∙ ap (λ (n : ℕ). byNumber n e) number;
       iteration-le = ends .1;

@@ -88,33 +88,33 @@ digits-full zero v s h = refl
 digits-full (suc k) v s h = absurd (omega arith)
 
 -- the largest number that k digits more can make of v
-abbrev largest : ℕ → ℕ → ℕ
-largest zero v = v
-largest (suc k) v = largest k (10 * v + 9)
+abbrev largestValue : ℕ → ℕ → ℕ
+largestValue zero v = v
+largestValue (suc k) v = largestValue k (10 * v + 9)
 
-largest-rises : (k v w : ℕ) → v ≤ w → largest k v ≤ largest k w
-largest-rises zero v w h = h
-largest-rises (suc k) v w h = largest-rises k (10 * v + 9) (10 * w + 9) (omega arith)
+largest-value-rises : (k v w : ℕ) → v ≤ w → largestValue k v ≤ largestValue k w
+largest-value-rises zero v w h = h
+largest-value-rises (suc k) v w h = largest-value-rises k (10 * v + 9) (10 * w + 9) (omega arith)
 
 -- the number that digits have found, as they always do
 abbrev value : Reading ℕ → ℕ
 value (found n s) = n
 value malformed = 0
 
-value-bounds : (k v : ℕ) (s : List ℕ) → (v ≤ value (digits k v s)) × (value (digits k v s) ≤ largest k v)
+value-bounds : (k v : ℕ) (s : List ℕ) → (v ≤ value (digits k v s)) × (value (digits k v s) ≤ largestValue k v)
 unfolding digits
 value-bounds zero v s = (omega arith, omega arith)
 value-bounds (suc k) v s = split (isDigit (first s)) refl (λ w u. value-bounds k w u)
   where
     split : (b : Bool) → isDigit (first s) ≡ b
-        → ((w : ℕ) (u : List ℕ) → (w ≤ value (digits k w u)) × (value (digits k w u) ≤ largest k w)) →
+        → ((w : ℕ) (u : List ℕ) → (w ≤ value (digits k w u)) × (value (digits k w u) ≤ largestValue k w)) →
         let r = cond b (digits k (10 * v + (first s - 48)) (rest s)) (found v s) in
-        (v ≤ value r) × (value r ≤ largest k (10 * v + 9))
+        (v ≤ value r) × (value r ≤ largestValue k (10 * v + 9))
     split true e bounds =
         let range = digit-range (first s) e in
         let w = 10 * v + (first s - 48) in
         let b = bounds w (rest s) in
-        (omega arith, omega (arith, largest-rises k w (10 * v + 9) (omega arith)))
+        (omega arith, omega (arith, largest-value-rises k w (10 * v + 9) (omega arith)))
     split false e bounds = let b = bounds (10 * v + 9) [] in (omega arith, omega arith)
 
 -- a value on the way to six digits has at most six

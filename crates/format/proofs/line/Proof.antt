@@ -28,7 +28,7 @@ Inv-loop out₀ at zs end₀ i₀ out end i = (i ≤ length zs) × Writing out�
 abbrev μ-loop : tie.MeasureT-loop
 μ-loop out₀ at zs end₀ i₀ out end i = length zs - i
 
-module _ (c : tie.After-parting Inv-loop μ-loop) where
+module _ (c : tie.After-separator Inv-loop μ-loop) where
   abbrev values : List ℤ
   values = c .before .before .before .before .before .before .args .zs .now
 
@@ -36,7 +36,7 @@ module _ (c : tie.After-parting Inv-loop μ-loop) where
   i = c .before .before .before .before .loop .i
 
   abbrev piece : List ℕ
-  piece = shown (getD values i (pos 0)) ++ (c .parting .result ∷ [])
+  piece = shown (getD values i (pos 0)) ++ (c .separator .result ∷ [])
 
   abbrev left : List ℕ
   left = line (drop (i + 1) values)
@@ -45,7 +45,7 @@ module _ (c : tie.After-parting Inv-loop μ-loop) where
   known = toZ-ofZ (record { sfits = c .before .value-arg2 .given })
 
   next : line (drop i values) ≡ piece ++ left
-  next = line-next values i (c .parting .result) (c .before .before .before .loop-test .taken) (c .parting .ensures)
+  next = line-next values i (c .separator .result) (c .before .before .before .loop-test .taken) (c .separator .ensures)
 
 loop-holds : tie.Need-loop-holds Inv-loop μ-loop
 loop-holds c = (zero-le, writing-starts)
@@ -56,11 +56,11 @@ mul-value c = omega (arith, c .before .before .before .before .good)
 shared-slice-copy-out-value : tie.Need-shared-slice-copy-out-value Inv-loop μ-loop
 shared-slice-copy-out-value c = omega arith
 
-add-parting : tie.Need-add-parting Inv-loop μ-loop
-add-parting c = omega arith
+add-separator : tie.Need-add-separator Inv-loop μ-loop
+add-separator c = omega arith
 
-parting-requires : tie.Need-parting-requires Inv-loop μ-loop
-parting-requires c κs = search needs
+separator-requires : tie.Need-separator-requires Inv-loop μ-loop
+separator-requires c κs = search needs
 
 value-requires : tie.Need-value-requires Inv-loop μ-loop
 value-requires c κs =
@@ -97,8 +97,8 @@ line-spec =
     loop-holds
     mul-value
     shared-slice-copy-out-value
-    add-parting
-    parting-requires
+    add-separator
+    separator-requires
     value-requires
     add-i
     loop-less

@@ -6,14 +6,14 @@ use borrow.Author.Needs.{needs}
 use Rattle.report_cases.proofs.largest.first_lines.Statement.{statement}
 use Rattle.report_cases.proofs.largest.first_lines.Tie as tie
 
-bytes-requires : tie.Need-bytes-requires
-bytes-requires c κs = search needs
+text-requires : tie.Need-text-requires
+text-requires c κs = search needs
 
-slice-aggregate-bytes : tie.Need-slice-aggregate-bytes
-slice-aggregate-bytes c = sym (length-take-le 57 (c .before .before .before .args .output .now) (omega arith))
+slice-aggregate-text : tie.Need-slice-aggregate-text
+slice-aggregate-text c = sym (length-take-le 57 (c .before .before .before .args .output .now) (omega arith))
 
-bytes-requires-2 : tie.Need-bytes-requires-2
-bytes-requires-2 c κs = search needs
+text-requires-2 : tie.Need-text-requires-2
+text-requires-2 c κs = search needs
 
 returns : tie.Need-returns
 returns c = search needs
@@ -23,4 +23,4 @@ returns-2 c = search needs
 
 pub first-lines-spec : {M : Type 1} → statement M
 first-lines-spec =
-    tie.close (tie.spec bytes-requires slice-aggregate-bytes bytes-requires-2 returns returns-2)
+    tie.close (tie.spec text-requires slice-aggregate-text text-requires-2 returns returns-2)
