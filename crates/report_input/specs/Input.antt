@@ -125,13 +125,17 @@ largestLengths =
       work = mostWorkspace;
     }
 
+-- the decoder's number of a block
+abbrev pub blockNumber : Settings → Block → ℕ
+blockNumber s b = decodeNumber s (b .mask) (b .llr) largestLengths
+
 abbrev pub meaningBy : ℕ → Settings → Block → Meaning
 meaningBy zero s b = block s b
 meaningBy (suc number) s b = refused (suc number)
 
 -- the rest is tested for 14 (nothing follows the last line), then come the decoder's numbers
 abbrev pub tested : Settings → Reading Block → Meaning
-tested s (found b []) = meaningBy (decodeNumber s (b .mask) (b .llr) largestLengths) s b
+tested s (found b []) = meaningBy (blockNumber s b) s b
 tested s (found b (x ∷ behind)) = refused 14
 tested s malformed = refused 14
 
@@ -158,11 +162,12 @@ abbrev pub answerOf : Input → ReadAnswer
 answerOf (Accepted s) = accepted s
 answerOf (Refused r) = rejected (refusalNumber r)
 
--- the values of a block from the first element on, the old contents behind them
+-- values from the first element on, the old contents behind them
 module _ {A : Type 0} where
   abbrev pub writtenOver : List A → List A → List A
   writtenOver values old = values ++ drop (length values) old
 
+-- the lent slices: after a refusal as they were
 abbrev pub slicesAfter : Meaning → Block → Block
 slicesAfter (refused number) old = old
 slicesAfter (block s b) old = blockOf (writtenOver (b .mask) (old .mask)) (writtenOver (b .llr) (old .llr))

@@ -15,7 +15,6 @@ use Rattle.calls.specs.declared.Refusal.{Refusal}
 use Rattle.calls.specs.Numbers.{between, refusalNumber, andThen}
 use Rattle.calls.specs.NumberLaws.{refused-first}
 use Rattle.settings.specs.declared.Settings.{Settings}
-use Rattle.settings.specs.Settings.{decodeNumber}
 use Rattle.scan.specs.Reading.{Reading, found, malformed, bind}
 use Rattle.report_input.specs.Input.{
   longestText,
@@ -36,7 +35,7 @@ use Rattle.report_input.specs.Input.{
   Meaning,
   refused,
   block,
-  largestLengths,
+  blockNumber,
   meaningBy,
   tested,
   sized,
@@ -169,12 +168,8 @@ position-lines-long (suc n) p s = first (positionLine p s) (λ s. position-lines
 
 -- ---- a block that is accepted
 
--- its number where there is room for every block
-abbrev blockNumber : Settings → Block → ℕ
-blockNumber s b = decodeNumber s (b .mask) (b .llr) largestLengths
-
 pub record Fit (s : Settings) (b : Block) : Type 0 where
-  pub number : decodeNumber s (b .mask) (b .llr) largestLengths ≡ 0
+  pub number : blockNumber s b ≡ 0
   pub long : Long (2 ^ s .m) b
 
 abbrev pub Means : Meaning → Type 0

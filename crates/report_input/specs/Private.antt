@@ -1,4 +1,4 @@
--- What the answers of private functions say of the text t that they read. Definitions only.
+-- For the contracts of private functions: what their answers say of the text t that they read. Definitions only.
 use Prim.Native.Nat.{ℕ}
 use mathlib.Core.List.{List}
 use lib.IntN.{ℤ}
