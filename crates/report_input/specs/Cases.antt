@@ -2,7 +2,7 @@
 use Prim.Native.Nat.{ℕ}
 use mathlib.Core.Path.{_≡_, refl}
 use mathlib.Core.List.{List, [], _∷_, _++_, map}
-use lib.IntN.{ℤ, pos, negsuc}
+use lib.IntN.{pos, negsuc}
 use Rattle.scan.specs.Numbers.{digits, natural, number}
 use Rattle.scan.specs.Lines.{spaces, separator, line, literal}
 use Rattle.calls.specs.Texts.{bytes}

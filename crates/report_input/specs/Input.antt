@@ -1,7 +1,7 @@
 -- Document 01, "The report's text": what an input means, in the order of the section's sentences. Definitions only.
 use Prim.Native.Nat.{ℕ, zero, suc, _+_, _*_, _^_, min}
 use mathlib.Core.Path.{_≡_}
-use mathlib.Core.Bool.{Bool, true, false, cond}
+use mathlib.Core.Bool.{cond}
 use mathlib.Core.List.{List, [], _∷_, _++_}
 use lib.Dec.{leb, eqb}
 use lib.IntN.{ℤ, pos, negsuc, natAbs}

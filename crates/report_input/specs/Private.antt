@@ -1,7 +1,6 @@
 -- For the contracts of private functions: what their answers say of the text t that they read. Definitions only.
 use Prim.Native.Nat.{ℕ}
 use mathlib.Core.List.{List}
-use lib.IntN.{ℤ}
 use lib.ListN.{drop, take}
 use Rattle.settings.specs.declared.Settings.{Settings}
 use Rattle.scan.specs.Reading.{Reading, found, malformed}

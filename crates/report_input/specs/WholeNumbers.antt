@@ -3,7 +3,7 @@
 use Prim.Native.Nat.{ℕ, zero, suc, _+_, _^_, _*_, _≤_, _<_, min}
 use mathlib.Core.Path.{_≡_, refl, sym, ap, ap₂, _∙_}
 use mathlib.Core.Bool.{Bool, true, false, _&&_, _||_, and-false, true≢false}
-use mathlib.Core.List.{List, [], _∷_, map}
+use mathlib.Core.List.{List, map}
 use native.Mathlib.Nat.{add-zero, mul-le-mul}
 use native.Mathlib.Omega.{arith}
 use lib.Dec.{leb, eqb, lit<, leb·zero, leb·suc-zero, eqb·suc-zero}
@@ -16,7 +16,7 @@ use Rattle.calls.specs.NumberLaws.{between-passed}
 use Rattle.calls.specs.Signs.{isNegative}
 use Rattle.calls.specs.SignLaws.{size-flipped}
 use Rattle.polar.specs.Code.{areBits, informationCount, byKind}
-use Rattle.settings.specs.Settings.{operandFits, settingsNumber, slicesFit, withinCeiling, decodeNumber}
+use Rattle.settings.specs.Settings.{operandFits, slicesFit, withinCeiling, decodeNumber}
 use Rattle.report_input.specs.Input.{
   outsideRanges,
   mostPositions,

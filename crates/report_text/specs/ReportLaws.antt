@@ -6,7 +6,7 @@ use mathlib.Core.List.{List, [], _∷_, _++_}
 use native.Mathlib.Numerals.{add-one}
 use native.Mathlib.Omega.{arith}
 use lib.Dec.{lit≤}
-use lib.IntN.{ℤ, pos, natAbs}
+use lib.IntN.{ℤ, pos}
 use lib.ListN.{length, getD, length-append}
 use lib.Pow.{pow-mono}
 use Rattle.calls.specs.declared.Refusal.{Refusal}
@@ -16,7 +16,6 @@ use Rattle.message.specs.MessageLaws.{add-size}
 use Rattle.criteria.specs.CriteriaLaws.{mark-le}
 use Rattle.sweeps.specs.Workspace.{L, R}
 use Rattle.settings.specs.declared.Settings.{Settings}
-use Rattle.settings.specs.declared.Room.{Room}
 use Rattle.settings.specs.Settings.{decodeNumber}
 use Rattle.settings.specs.SettingsLaws.{accepted}
 use Rattle.decoder.specs.declared.Reason.{Reason}

@@ -3,7 +3,7 @@
 // from the first byte of the lent array on, its old contents behind, and the text's length. The array has room for
 // every outcome.
 ghost use mathlib.Core.Path.{_≡_};
-ghost use Prim.Native.Nat.{_+_, _*_, _≤_, _^_};
+ghost use Prim.Native.Nat.{_+_, _*_, _≤_};
 ghost use lib.ListN.{length};
 ghost use Rattle.calls.specs.Numbers.{refusalNumber};
 ghost use Rattle.report_input.specs.Input.{mostPositions, mostWorkspace, blockOf};

@@ -1,5 +1,5 @@
 -- `read` meets its contract.
-use mathlib.Core.Path.{_≡_, ap, _∙_}
+use mathlib.Core.Path.{ap, _∙_}
 use Rattle.calls.specs.declared.Refusal.the-variants.{MalformedText}
 use Rattle.report_input.specs.Input.{sized}
 use Rattle.report_input.specs.InputLaws.{read-refused, meaning-long, meaning-sized}

@@ -7,7 +7,7 @@ use lib.ListN.{drop, take}
 use Rattle.scan.specs.Reading.{found}
 use Rattle.scan.specs.Lines.{line, literal}
 use Rattle.scan.specs.Answers.{readTo}
-use Rattle.report_input.specs.Input.{settingNames, positionNames}
+use Rattle.report_input.specs.Input.{settingNames}
 use Rattle.report_input.specs.InputLaws.{head-found, head-first, head-second, head-third}
 use borrow.Author.Needs.{needs}
 use Rattle.report_input.proofs.read_head.Statement.{statement}

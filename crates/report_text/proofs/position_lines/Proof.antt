@@ -9,7 +9,6 @@ use mir.Syntax.{w16}
 use mir.Val.{toZ, ofZ}
 use mir.Facts.{toZ-ofZ}
 use Rattle.format.specs.Decimal.{line}
-use Rattle.format.specs.Wrote.{Wrote}
 use Rattle.format.specs.WroteLaws.{Writing, writing-starts, writing-next, writing-ends, writing-room, writing-length}
 use Rattle.report_text.specs.Report.{positionValues, positionLines}
 use Rattle.report_text.specs.ReportLaws.{position-lines-next, position-lines-end}
