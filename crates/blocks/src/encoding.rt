@@ -5,12 +5,12 @@ use polar::Code;
 
 // One call of the coder: what it is handed, its answer, and the block afterwards.
 pub fn encode(m: u32, mask: &[u8], message: &[u8], block: &mut [u8]) {
-    show::text(b"encode");
+    console::text(b"encode");
     say::code(m, mask);
-    show::bytes(b" message", message);
-    show::answer(polar::encode(Code { m }, mask, message, block));
-    show::bytes(b" block", block);
-    show::text(b"\n");
+    console::bytes(b" message", message);
+    console::answer(polar::encode(Code { m }, mask, message, block));
+    console::bytes(b" block", block);
+    console::text(b"\n");
 }
 
 // Document 01's two blocks of m = 2, the shortest block, and one with four information positions.

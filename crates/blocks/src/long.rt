@@ -48,11 +48,11 @@ pub fn longest_block() {
     let mut message = [0u8; 682];
     fill(&mut message, 5);
     let mut block = [9u8; 1026];
-    show::number(b"encode m=10 mask checksum ", checksum(&mask));
-    show::number(b" message checksum ", checksum(&message));
-    show::answer(polar::encode(Code { m: 10 }, &mask, &message, &mut block));
-    show::number(b" block checksum ", checksum(&block));
-    show::bytes(b" first", &block[0..16]);
-    show::bytes(b" last", &block[1016..]);
-    show::text(b"\n");
+    console::number(b"encode m=10 mask checksum ", checksum(&mask));
+    console::number(b" message checksum ", checksum(&message));
+    console::answer(polar::encode(Code { m: 10 }, &mask, &message, &mut block));
+    console::number(b" block checksum ", checksum(&block));
+    console::bytes(b" first", &block[0..16]);
+    console::bytes(b" last", &block[1016..]);
+    console::text(b"\n");
 }

@@ -10,14 +10,14 @@ use polar::Code;
 
 // The coder, and the coder again on its block, with m = 3 and every position an information position.
 fn encoded_twice(message: &[u8], block: &mut [u8], again: &mut [u8]) {
-    show::text(b"encode twice");
+    console::text(b"encode twice");
     let mask = [0u8; 8];
     say::code(3, &mask);
-    show::bytes(b" message", message);
-    show::answer(twice::encode_twice(Code { m: 3 }, &mask, message, block, again));
-    show::bytes(b" block", block);
-    show::bytes(b" again", again);
-    show::text(b"\n");
+    console::bytes(b" message", message);
+    console::answer(twice::encode_twice(Code { m: 3 }, &mask, message, block, again));
+    console::bytes(b" block", block);
+    console::bytes(b" again", again);
+    console::text(b"\n");
 }
 
 // The message comes back; then the second slice is one element too short.

@@ -4,12 +4,12 @@ use polar::Code;
 
 // One call of the read-out: what it is handed, its answer, and the message afterwards.
 fn read_out(m: u32, mask: &[u8], bytes: &[u8], message: &mut [u8]) {
-    show::text(b"read_out");
+    console::text(b"read_out");
     say::code(m, mask);
-    show::bytes(b" bytes", bytes);
-    show::answer(polar::read_out(Code { m }, mask, bytes, message));
-    show::bytes(b" message", message);
-    show::text(b"\n");
+    console::bytes(b" bytes", bytes);
+    console::answer(polar::read_out(Code { m }, mask, bytes, message));
+    console::bytes(b" message", message);
+    console::text(b"\n");
 }
 
 pub fn blocks() {

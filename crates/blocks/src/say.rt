@@ -2,6 +2,6 @@
 
 // The code of a call of the coder or the read-out: m and the mask.
 pub fn code(m: u32, mask: &[u8]) {
-    show::number(b" m=", m);
-    show::bytes(b" mask", mask);
+    console::number(b" m=", m);
+    console::bytes(b" mask", mask);
 }

@@ -10,3 +10,5 @@ pub mod BitLaws
 pub mod Every
 pub mod EveryLaws
 pub mod Bounds
+pub mod SignTestLaws
+pub mod Texts

@@ -7,11 +7,11 @@ use settings::Settings;
 pub fn outcome(outcome: Outcome) {
     match outcome {
         Outcome::Ended(iterations, why) => {
-            show::number(b" answer ", iterations);
-            show::number(b" ", decoder::reason_number(why));
+            console::number(b" answer ", iterations);
+            console::number(b" ", decoder::reason_number(why));
         }
         Outcome::Refused(refusal) => {
-            show::number(b" answer refused ", calls::number(Answer::Refused(refusal)));
+            console::number(b" answer refused ", calls::number(Answer::Refused(refusal)));
         }
     }
 }
@@ -23,10 +23,10 @@ pub fn settings(settings: Settings) {
     let limit = settings.limit;
     let criterion = settings.criterion;
     let operand = settings.operand;
-    show::number(b" m=", m);
-    show::number(b" C=", ceiling);
-    show::number(b" k=", scale);
-    show::number(b" T=", limit);
-    show::number(b" criterion ", criterion);
-    show::number(b" operand ", operand);
+    console::number(b" m=", m);
+    console::number(b" C=", ceiling);
+    console::number(b" k=", scale);
+    console::number(b" T=", limit);
+    console::number(b" criterion ", criterion);
+    console::number(b" operand ", operand);
 }

@@ -15,11 +15,11 @@ pub fn decode(
     coded_mark: &mut [u8],
     work: &mut [i16],
 ) {
-    show::text(b"decode ");
-    show::text(name);
+    console::text(b"decode ");
+    console::text(name);
     say::settings(settings);
-    show::bytes(b" mask", mask);
-    show::values(b" llr", llr);
+    console::bytes(b" mask", mask);
+    console::values(b" llr", llr);
     say::outcome(decoder::decode(
         settings,
         mask,
@@ -30,12 +30,12 @@ pub fn decode(
         coded_mark,
         work,
     ));
-    show::values(b" soft", soft);
-    show::bytes(b" mark", mark);
-    show::values(b" coded", coded_soft);
-    show::bytes(b" codedmark", coded_mark);
-    show::values(b" work", work);
-    show::text(b"\n");
+    console::values(b" soft", soft);
+    console::bytes(b" mark", mark);
+    console::values(b" coded", coded_soft);
+    console::bytes(b" codedmark", coded_mark);
+    console::values(b" work", work);
+    console::text(b"\n");
 }
 
 // The same with slices for two positions.

@@ -120,7 +120,7 @@ fn checksum(values: &[i16]) -> u32 {
     let mut sum = 0;
     let mut i = 0;
     while i < values.len() {
-        sum = folded(sum, show::size(values[i]), is_negative(values[i]));
+        sum = folded(sum, console::size(values[i]), is_negative(values[i]));
         i += 1;
     }
     sum
@@ -142,15 +142,15 @@ fn differences(sent: &[u8; 32], read: &[u8; 33]) -> u32 {
 // The message is coded, and the block is sent and received: the LLRs are written.
 fn send(message: &[u8; 32], llr: &mut [i16]) {
     let mut block = [9u8; 65];
-    show::bytes(b"link m=6 message", message);
-    show::answer(polar::encode(Code { m: 6 }, &MASK, message, &mut block));
-    show::bytes(b" block", &block);
+    console::bytes(b"link m=6 message", message);
+    console::answer(polar::encode(Code { m: 6 }, &MASK, message, &mut block));
+    console::bytes(b" block", &block);
     let mut samples = [0.0f32; 64];
     fill_samples(&block, &mut samples);
-    show::text(b"\nlink gaussian 8 m=6 C=127");
-    show::answer(channel::front(6, 127, Channel::Gaussian(8.0), &samples, llr));
-    show::values(b" llr", llr);
-    show::text(b"\n");
+    console::text(b"\nlink gaussian 8 m=6 C=127");
+    console::answer(channel::front(6, 127, Channel::Gaussian(8.0), &samples, llr));
+    console::values(b" llr", llr);
+    console::text(b"\n");
 }
 
 // What the decoder makes of the LLRs: its answer, the checksums, and its marks.
@@ -159,7 +159,7 @@ fn receive(settings: Settings, llr: &[i16], mark: &mut [u8]) {
     let mut coded_soft = [9i16; 65];
     let mut coded_mark = [9u8; 65];
     let mut work = [9i16; 897];
-    show::text(b"link");
+    console::text(b"link");
     say::settings(settings);
     say::outcome(decoder::decode(
         settings,
@@ -171,9 +171,9 @@ fn receive(settings: Settings, llr: &[i16], mark: &mut [u8]) {
         &mut coded_mark,
         &mut work,
     ));
-    show::number(b" checksums soft ", checksum(&soft));
-    show::number(b" coded ", checksum(&coded_soft));
-    show::number(b" work ", checksum(&work));
+    console::number(b" checksums soft ", checksum(&soft));
+    console::number(b" coded ", checksum(&coded_soft));
+    console::number(b" work ", checksum(&work));
 }
 
 // One limit and criterion on the LLRs, then the read-out beside the message.
@@ -189,11 +189,11 @@ fn end_by(limit: u32, criterion: u32, operand: u32, message: &[u8; 32], llr: &[i
     let mut mark = [9u8; 65];
     receive(settings, llr, &mut mark);
     let mut read = [9u8; 33];
-    show::text(b" read_out");
-    show::answer(polar::read_out(Code { m: 6 }, &MASK, &mark, &mut read));
-    show::bytes(b" message", &read);
-    show::number(b" wrong ", differences(message, &read));
-    show::text(b"\n");
+    console::text(b" read_out");
+    console::answer(polar::read_out(Code { m: 6 }, &MASK, &mark, &mut read));
+    console::bytes(b" message", &read);
+    console::number(b" wrong ", differences(message, &read));
+    console::text(b"\n");
 }
 
 pub fn link() {

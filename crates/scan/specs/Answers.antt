@@ -1,8 +1,7 @@
 -- What the answers of the code say of the text t that it reads. Definitions only.
 use Prim.Native.Nat.{ℕ}
-use mathlib.Core.Bool.{Bool, true, false}
 use mathlib.Core.List.{List}
-use lib.IntN.{ℤ, pos, negℤ}
+use lib.IntN.{ℤ}
 use lib.ListN.{drop}
 use Rattle.scan.specs.Reading.{Reading, found, malformed}
 use Rattle.scan.specs.declared.Value.{Value}
@@ -19,8 +18,3 @@ module _ {A : Type 0} where
   abbrev pub readTo : List ℕ → A → Next → Reading A
   readTo t a (At next) = found a (drop next t)
   readTo t a Malformed = malformed
-
--- the value of a size that stands behind a minus, or behind none
-abbrev pub withSign : Bool → ℕ → ℤ
-withSign true n = negℤ (pos n)
-withSign false n = pos n

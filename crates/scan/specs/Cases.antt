@@ -1,23 +1,18 @@
 -- The definitions at chosen texts. Computed facts.
 use Prim.Native.Nat.{ℕ}
-use Prim.Native.Char.{code}
-use Prim.Native.String as S
+use Prim.Native.String.{String}
 use mathlib.Core.Path.{_≡_, refl}
 use mathlib.Core.List.{List, [], _∷_}
 use lib.IntN.{ℤ, pos, negsuc}
+use Rattle.calls.specs.Texts.{bytes}
 use Rattle.scan.specs.Reading.{Reading, found, malformed}
 use Rattle.scan.specs.Numbers.{digits, natural, number}
 use Rattle.scan.specs.Lines.{spaces, separator, line, literal}
 
--- the bytes of a quoted text
-abbrev bytes : S.String → List ℕ
-bytes S.[] = []
-bytes (S._∷_ c s) = code c ∷ bytes s
-
-abbrev read : ℕ → S.String → Reading (List ℤ)
+abbrev read : ℕ → String → Reading (List ℤ)
 read n s = line n (bytes s)
 
-abbrev values : List ℤ → S.String → Reading (List ℤ)
+abbrev values : List ℤ → String → Reading (List ℤ)
 values zs s = found zs (bytes s)
 
 -- ---- lines of values that are accepted

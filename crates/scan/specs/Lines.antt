@@ -1,10 +1,11 @@
--- Document 01, "The report's text": a line of values, "parted by one or more spaces, none at either end", ended by byte 10; and a fixed text. Definitions only.
+-- Document 01, "The report's text": a line of values, "parted by one or more spaces, none at either end", ended by byte
+-- 10; and a fixed text. Definitions only.
 use Prim.Native.Nat.{ℕ, zero, suc}
 use mathlib.Core.Bool.{cond}
 use mathlib.Core.List.{List, [], _∷_}
 use lib.Dec.{eqb}
 use lib.IntN.{ℤ}
-use Rattle.scan.specs.Reading.{Reading, found, malformed, then, first, rest}
+use Rattle.scan.specs.Reading.{Reading, found, malformed, bind, first, rest}
 use Rattle.scan.specs.Numbers.{number}
 
 -- the text behind its leading spaces, bytes 32
@@ -12,7 +13,8 @@ unfoldable pub spaces : List ℕ → List ℕ
 spaces [] = []
 spaces (b ∷ s) = cond (eqb b 32) (spaces s) (b ∷ s)
 
--- what stands behind a value with n more to come in its line: byte 10 behind the last, one or more spaces behind any other
+-- what stands behind a value with n more to come in its line: byte 10 behind the last, one or more spaces behind any
+-- other
 unfoldable pub separator : ℕ → List ℕ → Reading Unit
 separator zero s = cond (eqb (first s) 10) (found tt (rest s)) malformed
 separator (suc n) s = cond (eqb (first s) 32) (found tt (spaces s)) malformed
@@ -21,9 +23,9 @@ separator (suc n) s = cond (eqb (first s) 32) (found tt (spaces s)) malformed
 unfoldable pub line : ℕ → List ℕ → Reading (List ℤ)
 line zero s = found [] s
 line (suc n) s =
-    then (number s) (λ z s.
-    then (separator n s) (λ _ s.
-    then (line n s) (λ zs s. found (z ∷ zs) s)))
+    bind (number s) (λ z s.
+    bind (separator n s) (λ _ s.
+    bind (line n s) (λ zs s. found (z ∷ zs) s)))
 
 -- exactly these bytes
 unfoldable pub literal : List ℕ → List ℕ → Reading Unit

@@ -4,7 +4,7 @@ use mathlib.Core.Bool.{Bool, cond, _&&_}
 use mathlib.Core.List.{List}
 use lib.Dec.{leb, eqb}
 use lib.IntN.{ℤ, pos, negℤ}
-use Rattle.scan.specs.Reading.{Reading, found, malformed, then, first, rest}
+use Rattle.scan.specs.Reading.{Reading, found, malformed, bind, first, rest}
 
 -- bytes 48 to 57
 abbrev pub isDigit : ℕ → Bool
@@ -23,5 +23,5 @@ natural s = cond (isDigit (first s)) (digits 6 0 s) malformed
 unfoldable pub number : List ℕ → Reading ℤ
 number s =
     cond (eqb (first s) 45)
-    (then (natural (rest s)) (λ n s. found (negℤ (pos n)) s))
-    (then (natural s) (λ n s. found (pos n) s))
+    (bind (natural (rest s)) (λ n s. found (negℤ (pos n)) s))
+    (bind (natural s) (λ n s. found (pos n) s))

@@ -9,9 +9,9 @@ pub data Reading (A : Type 0) : Type 0 where
 
 -- one reading after another: the second goes on where the first ended, and may depend on what it found
 module _ {A B : Type 0} where
-  abbrev pub then : Reading A → (A → List ℕ → Reading B) → Reading B
-  then (found a s) next = next a s
-  then malformed next = malformed
+  abbrev pub bind : Reading A → (A → List ℕ → Reading B) → Reading B
+  bind (found a s) next = next a s
+  bind malformed next = malformed
 
 -- the first byte of a text, 0 where it is empty (no rule lets a byte 0 pass), and the text behind it
 abbrev pub first : List ℕ → ℕ

@@ -1,4 +1,5 @@
--- The definitions at the text from a position on, in the terms of a reader that keeps a position; and the sizes of what is read.
+-- The definitions at the text from a position on, in the terms of a reader that keeps a position; and the sizes of what
+-- is read.
 use Prim.Native.Nat.{ℕ, zero, suc, _+_, _-_, _*_, _<_, _≤_}
 use mathlib.Core.Path.{_≡_, refl, sym, ap, _∙_}
 use mathlib.Core.Bool.{Bool, true, false, cond, _&&_, true≢false}
@@ -7,32 +8,34 @@ use native.Mathlib.Omega.{arith}
 use native.Mathlib.Numerals.{add-one, sub-one}
 use borrow.Author.Tests.{leb-true}
 use lib.Dec.{leb, eqb}
-use lib.IntN.{ℤ, pos, negsuc, negℤ, natAbs}
+use lib.IntN.{ℤ, pos, negℤ, natAbs}
 use lib.ListN.{length, getD, drop, take, set, drop-of-length-le}
 use lib.Seq.{drop-cons, take-suc-set}
-use Rattle.scan.specs.Reading.{Reading, found, malformed, then, first, rest}
+use Rattle.calls.specs.SignLaws.{size-neg}
+use Rattle.scan.specs.Reading.{Reading, found, malformed, bind, first, rest}
 use Rattle.scan.specs.Numbers.{isDigit, digits, natural, number}
 use Rattle.scan.specs.Lines.{spaces, separator, line, literal}
 
 -- ---- one reading after another
 
 module _ {A B : Type 0} where
-  pub then-go : {r : Reading A} {a : A} {s : List ℕ} (next : A → List ℕ → Reading B) → r ≡ found a s → then r next ≡ next a s
-  then-go next e = rw e
+  pub bind-of-found : {r : Reading A} {a : A} {s : List ℕ} (next : A → List ℕ → Reading B) → r ≡ found a s
+      → bind r next ≡ next a s
+  bind-of-found next e = rw e
 
-  pub then-stop : {r : Reading A} (next : A → List ℕ → Reading B) → r ≡ malformed → then r next ≡ malformed
-  then-stop next e = rw e
+  pub bind-of-malformed : {r : Reading A} (next : A → List ℕ → Reading B) → r ≡ malformed → bind r next ≡ malformed
+  bind-of-malformed next e = rw e
 
   -- where two readings have found something, each has
-  pub then-found : (r : Reading A) (next : A → List ℕ → Reading B) (b : B) (u : List ℕ) → then r next ≡ found b u →
+  pub bind-found : (r : Reading A) (next : A → List ℕ → Reading B) (b : B) (u : List ℕ) → bind r next ≡ found b u →
       (a : A) × (s : List ℕ) × (r ≡ found a s) × (next a s ≡ found b u)
-  then-found (found a s) next b u e = (a, s, refl, e)
-  then-found malformed next b u e = let h : _≡_ {A = ℕ} 0 1 = cc in absurd (omega arith)
+  bind-found (found a s) next b u e = (a, s, refl, e)
+  bind-found malformed next b u e = let h : _≡_ {A = ℕ} 0 1 = cc in absurd (omega arith)
 
-  pub then-then : {C : Type 0} (r : Reading A) (next : A → List ℕ → Reading B) (last : B → List ℕ → Reading C) →
-      then (then r next) last ≡ then r (λ a s. then (next a s) last)
-  then-then (found a s) next last = refl
-  then-then malformed next last = refl
+  pub bind-bind : {C : Type 0} (r : Reading A) (next : A → List ℕ → Reading B) (last : B → List ℕ → Reading C) →
+      bind (bind r next) last ≡ bind r (λ a s. bind (next a s) last)
+  bind-bind (found a s) next last = refl
+  bind-bind malformed next last = refl
 
 -- ---- the byte at a position, and the text behind it
 
@@ -85,31 +88,33 @@ digits-full zero v s h = refl
 digits-full (suc k) v s h = absurd (omega arith)
 
 -- the largest number that k digits more can make of v
-abbrev largest : ℕ → ℕ → ℕ
-largest zero v = v
-largest (suc k) v = largest k (10 * v + 9)
+abbrev largestValue : ℕ → ℕ → ℕ
+largestValue zero v = v
+largestValue (suc k) v = largestValue k (10 * v + 9)
 
-largest-rises : (k v w : ℕ) → v ≤ w → largest k v ≤ largest k w
-largest-rises zero v w h = h
-largest-rises (suc k) v w h = largest-rises k (10 * v + 9) (10 * w + 9) (omega arith)
+largest-value-rises : (k v w : ℕ) → v ≤ w → largestValue k v ≤ largestValue k w
+largest-value-rises zero v w h = h
+largest-value-rises (suc k) v w h = largest-value-rises k (10 * v + 9) (10 * w + 9) (omega arith)
 
 -- the number that digits have found, as they always do
 abbrev value : Reading ℕ → ℕ
 value (found n s) = n
 value malformed = 0
 
-value-bounds : (k v : ℕ) (s : List ℕ) → (v ≤ value (digits k v s)) × (value (digits k v s) ≤ largest k v)
+value-bounds : (k v : ℕ) (s : List ℕ) → (v ≤ value (digits k v s)) × (value (digits k v s) ≤ largestValue k v)
 unfolding digits
 value-bounds zero v s = (omega arith, omega arith)
 value-bounds (suc k) v s = split (isDigit (first s)) refl (λ w u. value-bounds k w u)
   where
-    split : (b : Bool) → isDigit (first s) ≡ b → ((w : ℕ) (u : List ℕ) → (w ≤ value (digits k w u)) × (value (digits k w u) ≤ largest k w)) →
-        let r = cond b (digits k (10 * v + (first s - 48)) (rest s)) (found v s) in (v ≤ value r) × (value r ≤ largest k (10 * v + 9))
+    split : (b : Bool) → isDigit (first s) ≡ b
+        → ((w : ℕ) (u : List ℕ) → (w ≤ value (digits k w u)) × (value (digits k w u) ≤ largestValue k w)) →
+        let r = cond b (digits k (10 * v + (first s - 48)) (rest s)) (found v s) in
+        (v ≤ value r) × (value r ≤ largestValue k (10 * v + 9))
     split true e bounds =
         let range = digit-range (first s) e in
         let w = 10 * v + (first s - 48) in
         let b = bounds w (rest s) in
-        (omega arith, omega (arith, largest-rises k w (10 * v + 9) (omega arith)))
+        (omega arith, omega (arith, largest-value-rises k w (10 * v + 9) (omega arith)))
     split false e bounds = let b = bounds (10 * v + 9) [] in (omega arith, omega arith)
 
 -- a value on the way to six digits has at most six
@@ -136,11 +141,11 @@ natural-size s v u e = split (isDigit (first s)) e
     split false e = let h : _≡_ {A = ℕ} 0 1 = cc in absurd (omega arith)
 
 pub number-minus : (i : ℕ) (t : List ℕ) → eqb (first (drop i t)) 45 ≡ true →
-    number (drop i t) ≡ then (natural (drop (i + 1) t)) (λ n s. found (negℤ (pos n)) s)
+    number (drop i t) ≡ bind (natural (drop (i + 1) t)) (λ n s. found (negℤ (pos n)) s)
 unfolding number
 number-minus i t e = rw (e, rest-drop i t)
 
-pub number-plain : (s : List ℕ) → eqb (first s) 45 ≡ false → number s ≡ then (natural s) (λ n s. found (pos n) s)
+pub number-plain : (s : List ℕ) → eqb (first s) 45 ≡ false → number s ≡ bind (natural s) (λ n s. found (pos n) s)
 unfolding number
 number-plain s e = rw e
 
@@ -159,11 +164,13 @@ unfolding spaces
 spaces-end [] e = refl
 spaces-end (b ∷ s) e = rw e
 
-pub separator-last : (i : ℕ) (t : List ℕ) → separator 0 (drop i t) ≡ cond (eqb (first (drop i t)) 10) (found tt (drop (i + 1) t)) malformed
+pub separator-last : (i : ℕ) (t : List ℕ)
+    → separator 0 (drop i t) ≡ cond (eqb (first (drop i t)) 10) (found tt (drop (i + 1) t)) malformed
 unfolding separator
 separator-last i t = rw (rest-drop i t)
 
-pub separator-more : (n : ℕ) (s : List ℕ) → (n ≡ 0 → ⊥) → separator n s ≡ cond (eqb (first s) 32) (found tt (spaces s)) malformed
+pub separator-more : (n : ℕ) (s : List ℕ) → (n ≡ 0 → ⊥)
+    → separator n s ≡ cond (eqb (first s) 32) (found tt (spaces s)) malformed
 unfolding separator
 separator-more zero s h = absurd (h refl)
 separator-more (suc n) s h = refl
@@ -171,11 +178,13 @@ separator-more (suc n) s h = refl
 -- ---- fixed texts
 
 pub literal-next : (name : List ℕ) (i : ℕ) (t : List ℕ) (p : ℕ) → i < length name → p < length t →
-    literal (drop i name) (drop p t) ≡ cond (eqb (getD name i 0) (getD t p 0)) (literal (drop (i + 1) name) (drop (p + 1) t)) malformed
+    literal (drop i name) (drop p t)
+    ≡ cond (eqb (getD name i 0) (getD t p 0)) (literal (drop (i + 1) name) (drop (p + 1) t)) malformed
 unfolding literal
 literal-next name i t p h g = rw (drop-cons name i 0 h, drop-cons t p 0 g, add-one i, add-one p)
 
-pub literal-short : (name : List ℕ) (i : ℕ) (t : List ℕ) (p : ℕ) → i < length name → length t ≤ p → literal (drop i name) (drop p t) ≡ malformed
+pub literal-short : (name : List ℕ) (i : ℕ) (t : List ℕ) (p : ℕ) → i < length name → length t ≤ p
+    → literal (drop i name) (drop p t) ≡ malformed
 unfolding literal
 literal-short name i t p h g = rw (drop-cons name i 0 h, drop-of-length-le t g)
 
@@ -187,7 +196,7 @@ literal-end name i s h = rw (drop-of-length-le name h)
 
 -- values read before, put in front of those still to be read
 abbrev pub behind : List ℤ → Reading (List ℤ) → Reading (List ℤ)
-behind before r = then r (λ zs s. found (before ++ zs) s)
+behind before r = bind r (λ zs s. found (before ++ zs) s)
 
 pub behind-none : (r : Reading (List ℤ)) → behind [] r ≡ r
 behind-none (found zs s) = refl
@@ -202,7 +211,8 @@ unfolding line
 line-none zero s h = refl
 line-none (suc n) s h = absurd (omega arith)
 
-line-some : (n : ℕ) (s : List ℕ) → 0 < n → line n s ≡ then (number s) (λ z u. then (separator (n - 1) u) (λ _ w. behind (z ∷ []) (line (n - 1) w)))
+line-some : (n : ℕ) (s : List ℕ) → 0 < n
+    → line n s ≡ bind (number s) (λ z u. bind (separator (n - 1) u) (λ _ w. behind (z ∷ []) (line (n - 1) w)))
 unfolding line
 line-some zero s h = absurd (omega arith)
 line-some (suc n) s h = rw (sub-one (suc n))
@@ -225,22 +235,18 @@ behind-stored values i z r h = behind-both (take i values) (z ∷ []) r ∙ rw (
 
 -- ---- the sizes of values
 
-pub size-neg : (z : ℤ) → natAbs (negℤ z) ≡ natAbs z
-size-neg (pos zero) = refl
-size-neg (pos (suc n)) = refl
-size-neg (negsuc n) = refl
-
 pub number-size : (s : List ℕ) (z : ℤ) (u : List ℕ) → number s ≡ found z u → natAbs z ≤ 999999
 unfolding number
 number-size s z u e = split (eqb (first s) 45) e
   where
     split : (minus : Bool) →
-        cond minus (then (natural (rest s)) (λ n s. found (negℤ (pos n)) s)) (then (natural s) (λ n s. found (pos n) s)) ≡ found z u → natAbs z ≤ 999999
+        cond minus (bind (natural (rest s)) (λ n s. found (negℤ (pos n)) s)) (bind (natural s) (λ n s. found (pos n) s))
+        ≡ found z u → natAbs z ≤ 999999
     split true e =
-        let (n, w, h, g) = then-found (natural (rest s)) (λ n s. found (negℤ (pos n)) s) z u e in
+        let (n, w, h, g) = bind-found (natural (rest s)) (λ n s. found (negℤ (pos n)) s) z u e in
         let k : negℤ (pos n) ≡ z = cc in rw (← k, size-neg (pos n)) (natural-size (rest s) n w h)
     split false e =
-        let (n, w, h, g) = then-found (natural s) (λ n s. found (pos n) s) z u e in
+        let (n, w, h, g) = bind-found (natural s) (λ n s. found (pos n) s) z u e in
         let k : pos n ≡ z = cc in rw (← k) (natural-size s n w h)
 
 -- a line that was read begins with a value, and goes on with a line that is one value shorter
@@ -248,9 +254,10 @@ line-parts : (n : ℕ) (s : List ℕ) (zs : List ℤ) (u : List ℕ) → line (s
     (z : ℤ) × (ys : List ℤ) × (w : List ℕ) × (natAbs z ≤ 999999) × (line n w ≡ found ys u) × (z ∷ ys ≡ zs)
 unfolding line
 line-parts n s zs u e =
-    let (z, v, h, e₁) = then-found (number s) (λ z s. then (separator n s) (λ _ s. behind (z ∷ []) (line n s))) zs u e in
-    let (_, w, _, e₂) = then-found (separator n v) (λ _ s. behind (z ∷ []) (line n s)) zs u e₁ in
-    let (ys, x, g, e₃) = then-found (line n w) (λ ys s. found (z ∷ ys) s) zs u e₂ in
+    let (z, v, h, e₁) =
+    bind-found (number s) (λ z s. bind (separator n s) (λ _ s. behind (z ∷ []) (line n s))) zs u e in
+    let (_, w, _, e₂) = bind-found (separator n v) (λ _ s. behind (z ∷ []) (line n s)) zs u e₁ in
+    let (ys, x, g, e₃) = bind-found (line n w) (λ ys s. found (z ∷ ys) s) zs u e₂ in
     let same : x ≡ u = cc in
     (z, ys, w, number-size s z v h, rw same at g, cc)
 
@@ -261,7 +268,8 @@ line-length (suc n) s zs u e =
     let (z, ys, w, _, g, h) = line-parts n s zs u e in rw (← h) (ap suc (line-length n w ys u g))
 
 -- every value has at most six digits
-pub line-sizes : (n : ℕ) (s : List ℕ) (zs : List ℤ) (u : List ℕ) → line n s ≡ found zs u → (i : ℕ) → natAbs (getD zs i (pos 0)) ≤ 999999
+pub line-sizes : (n : ℕ) (s : List ℕ) (zs : List ℤ) (u : List ℕ) → line n s ≡ found zs u → (i : ℕ)
+    → natAbs (getD zs i (pos 0)) ≤ 999999
 unfolding line
 line-sizes zero s zs u e i = let h : [] ≡ zs = cc in rw (← h) (none i)
   where

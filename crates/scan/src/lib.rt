@@ -1,14 +1,16 @@
 // Reads numbers, lines of values and fixed texts from a text of bytes, at positions.
-// It sees no other crate. It promises that each reading finds what the definitions of specs/ find, and where the text goes on.
-// A position behind the end of the text is allowed everywhere: nothing stands there.
+// It sees `calls` for its definitions. It promises that each reading finds what the definitions of specs/ find, and
+// where the text goes on. A position behind the end of the text is allowed everywhere: nothing stands there.
 ghost use mathlib.Core.Path.{_≡_};
 ghost use Prim.Native.Nat.{_≤_};
 ghost use lib.Dec.{eqb};
+ghost use lib.IntN.{pos};
 ghost use lib.ListN.{length, drop, take};
-ghost use Rattle.scan.specs.Reading.{first, found, then};
+ghost use Rattle.calls.specs.Signs.{flipped};
+ghost use Rattle.scan.specs.Reading.{first, found, bind};
 ghost use Rattle.scan.specs.Numbers.{isDigit, digits, natural, number};
 ghost use Rattle.scan.specs.Lines.{spaces, separator, line, literal};
-ghost use Rattle.scan.specs.Answers.{withSign, valueRead, readTo};
+ghost use Rattle.scan.specs.Answers.{valueRead, readTo};
 
 // A value and the position behind it.
 pub enum Value {
@@ -72,7 +74,8 @@ fn same_byte(a: u8, b: u8) -> bool
 
 // The digits at a position, at most six.
 fn digits(text: &[u8], at: usize) -> Natural
-    ensures { λ r. ⌜ digits 6 0 (drop at (now (text .entry))) ≡ found (r .value) (drop (r .next) (now (text .entry))) ⌝ }
+    ensures { λ r. ⌜ digits 6 0 (drop at (now (text .entry)))
+        ≡ found (r .value) (drop (r .next) (now (text .entry))) ⌝ }
 {
     let mut left: u32 = 6;
     let mut value: u32 = 0;
@@ -97,7 +100,8 @@ fn digits(text: &[u8], at: usize) -> Natural
 
 // One to six digits, with the sign that stood before them.
 fn signed_natural(text: &[u8], at: usize, negative: bool) -> Value
-    ensures { λ r. ⌜ then (natural (drop at (now (text .entry)))) (λ n s. found (withSign negative n) s) ≡ valueRead (now (text .entry)) r ⌝ }
+    ensures { λ r. ⌜ bind (natural (drop at (now (text .entry)))) (λ n s. found (flipped negative (pos n)) s)
+        ≡ valueRead (now (text .entry)) r ⌝ }
 {
     if is_digit(byte_at(text, at)) {
         let size = digits(text, at);
@@ -163,7 +167,8 @@ fn separator(text: &[u8], at: usize, more: usize) -> Next
 // A line of `count` values, stored in the first elements of a slice; those read before a fault are stored too.
 pub fn line(text: &[u8], at: usize, count: usize, values: &mut [i32]) -> Next
     requires { ⌜ count ≤ length (now values) ⌝ }
-    ensures { λ r. ⌜ line count (drop at (now (text .entry))) ≡ readTo (now (text .entry)) (take count (now (values .exit))) r ⌝ }
+    ensures { λ r. ⌜ line count (drop at (now (text .entry)))
+        ≡ readTo (now (text .entry)) (take count (now (values .exit))) r ⌝ }
     ensures { λ _. ⌜ drop count (now (values .exit)) ≡ drop count (now (values .entry)) ⌝ }
 {
     let mut left = count;

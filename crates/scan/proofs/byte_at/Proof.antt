@@ -13,7 +13,9 @@ returns : tie.Need-returns
 returns c = let a = c .before .before .args in sym (first-drop (a .at) (a .text .now))
 
 returns-2 : tie.Need-returns-2
-returns-2 c = let a = c .before .args in sym (first-drop (a .at) (a .text .now) ∙ List·getD-eq-default (a .text .now) 0 (c .if1 .left))
+returns-2 c =
+    let a = c .before .args in
+    sym (first-drop (a .at) (a .text .now) ∙ List·getD-eq-default (a .text .now) 0 (c .if1 .left))
 
 pub byte-at-spec : {M : Type 1} → statement M
 byte-at-spec = tie.close (tie.spec shared-slice-read-result returns returns-2)

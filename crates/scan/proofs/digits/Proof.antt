@@ -1,4 +1,5 @@
--- `digits` meets its contract. Going on from the value and the position reached gives what all six digits give; so no value exceeds 999999.
+-- `digits` meets its contract. Going on from the value and the position reached gives what all six digits give; so no
+-- value exceeds 999999.
 use Prim.Native.Nat.{_-_, _<_, _≤_}
 use mathlib.Core.Path.{_≡_, refl, sym, _∙_}
 use native.Mathlib.Omega.{arith}
@@ -16,8 +17,11 @@ Inv-loop text at left₀ value₀ p₀ left value p = digits 6 0 (drop at text) 
 abbrev μ-loop : tie.MeasureT-loop
 μ-loop text at left₀ value₀ p₀ left value p = left
 
-range : (c : tie.Else1 Inv-loop μ-loop) → (48 ≤ c .before .before .byte-at .result) × (c .before .before .byte-at .result ≤ 57)
-range c = digit-range (c .before .before .byte-at .result) (sym (c .before .is-digit .ensures) ∙ not-false (c .before .is-digit .result) (c .if1 .left))
+range : (c : tie.Else1 Inv-loop μ-loop)
+    → (48 ≤ c .before .before .byte-at .result) × (c .before .before .byte-at .result ≤ 57)
+range c =
+    digit-range (c .before .before .byte-at .result)
+    (sym (c .before .is-digit .ensures) ∙ not-false (c .before .is-digit .result) (c .if1 .left))
 
 in-text : (c : tie.Else1 Inv-loop μ-loop) →
     let k = c .before .before .before .before in k .loop .p < length (k .before .before .args .text .now)
@@ -46,7 +50,8 @@ returns c =
     let k = c .before .before .before .before in
     let l = k .loop in
     l .inv ∙ digits-end (l .left) (l .value) (drop (l .p) (k .before .before .args .text .now))
-    (rw (← c .before .before .byte-at .ensures, ← c .before .is-digit .ensures) (not-true (c .before .is-digit .result) (c .if1 .taken)))
+    (rw (← c .before .before .byte-at .ensures, ← c .before .is-digit .ensures)
+    (not-true (c .before .is-digit .result) (c .if1 .taken)))
 
 mul-value : tie.Need-mul-value Inv-loop μ-loop
 mul-value c = omega (arith, small (c .before .before .before .before))
@@ -74,7 +79,10 @@ loop-again c =
     let k = c .before .before .before .before in
     let l = k .loop in
     let e = sym (c .before .is-digit .ensures) ∙ not-false (c .before .is-digit .result) (c .if1 .left) in
-    rw (c .before .before .byte-at .ensures) (l .inv ∙ digits-next (l .left) (l .value) (l .p) (k .before .before .args .text .now) (c .before .before .before .loop-test .taken) (rw (c .before .before .byte-at .ensures) at e))
+    rw (c .before .before .byte-at .ensures)
+    (l .inv
+    ∙ digits-next (l .left) (l .value) (l .p) (k .before .before .args .text .now)
+    (c .before .before .before .loop-test .taken) (rw (c .before .before .byte-at .ensures) at e))
 
 returns-2 : tie.Need-returns-2 Inv-loop μ-loop
 returns-2 c = let l = c .before .loop in l .inv ∙ digits-full (l .left) (l .value) _ (c .loop-test .left)

@@ -1,7 +1,8 @@
--- `line` meets its contract. The values stored so far, put in front of the line that is still to be read, are the whole line.
-use Prim.Native.Nat.{_+_, _-_, _<_}
+-- `line` meets its contract. The values stored so far, put in front of the line that is still to be read, are the whole
+-- line.
+use Prim.Native.Nat.{ℕ, _+_, _-_, _<_}
 use mathlib.Core.Path.{_≡_, refl, sym, ap, _∙_}
-use mathlib.Core.List.{append-nil}
+use mathlib.Core.List.{List, append-nil}
 use native.Mathlib.Omega.{arith}
 use borrow.Author.Needs.{needs}
 use lib.ListN.{length, drop, take, length-set}
@@ -10,29 +11,45 @@ use Rattle.scan.specs.Reading.{found}
 use Rattle.scan.specs.Numbers.{number}
 use Rattle.scan.specs.Lines.{separator, line}
 use Rattle.scan.specs.Answers.{valueRead, readTo}
-use Rattle.scan.specs.ScanLaws.{behind, behind-none, behind-stored, line-none, line-no-number, line-no-separator, line-next}
+use Rattle.scan.specs.ScanLaws.{
+  behind,
+  behind-none,
+  behind-stored,
+  line-none,
+  line-no-number,
+  line-no-separator,
+  line-next,
+}
 use Rattle.scan.proofs.Signed.{kept}
 use Rattle.scan.proofs.line.Statement.{statement}
 use Rattle.scan.proofs.line.Tie as tie
 
 abbrev Inv-loop : tie.InvT-loop
 Inv-loop text at count values₀ left₀ i₀ p₀ values left i p =
-    (i + left ≡ count) × (length values ≡ length values₀) × (line count (drop at text) ≡ behind (take i values) (line left (drop p text))) × (drop count values ≡ drop count values₀)
+    (i + left ≡ count)
+    × (length values ≡ length values₀)
+    × (line count (drop at text) ≡ behind (take i values) (line left (drop p text)))
+    × (drop count values ≡ drop count values₀)
 
 abbrev μ-loop : tie.MeasureT-loop
 μ-loop text at count values₀ left₀ i₀ p₀ values left i p = left
 
 -- the value read, and the text behind it
-read : (c : tie.After-known-told Inv-loop μ-loop) →
-    let k = c .before .before .before .before .before in
-    let t = k .before .before .args .text .now in
-    number (drop (k .loop .p) t) ≡ found (c .before .read .given .0 .0) (drop (c .before .read .given .0 .1 .0) t)
-read c =
-    c .before .before .before .number .ensures
-    ∙ ap (valueRead (c .before .before .before .before .before .before .before .args .text .now)) (c .before .read .given .1)
+module _ (c : tie.After-known-told Inv-loop μ-loop) where
+  abbrev turn : tie.At-loop Inv-loop μ-loop
+  turn = c .before .before .before .before .before
+
+  abbrev text : List ℕ
+  text = turn .before .before .args .text .now
+
+  read : number (drop (turn .loop .p) text)
+      ≡ found (c .before .read .given .0 .0) (drop (c .before .read .given .0 .1 .0) text)
+  read = c .before .before .before .number .ensures ∙ ap (valueRead text) (c .before .read .given .1)
 
 loop-holds : tie.Need-loop-holds Inv-loop μ-loop
-loop-holds c = let a = c .before .args in (omega arith, refl, sym (behind-none (line (a .count) (drop (a .at) (a .text .now)))), refl)
+loop-holds c =
+    let a = c .before .args in
+    (omega arith, refl, sym (behind-none (line (a .count) (drop (a .at) (a .text .now)))), refl)
 
 sub-left : tie.Need-sub-left Inv-loop μ-loop
 sub-left c = omega arith
@@ -54,8 +71,12 @@ returns c =
     let k = c .before .before .before .before in
     let l = k .loop in
     let t = k .before .before .args .text .now in
-    let e = c .before .before .number .ensures ∙ ap (valueRead t) (c .enum-told .given .1) in
-    (l .inv .2 ∙ ap (behind (take (l .i) (l .values))) (line-no-number (l .left) (drop (l .p) t) (c .before .before .before .loop-test .taken) e), l .inv .3)
+    let e = c .before .before .number .ensures ∙ ap (valueRead t) (c .enum-told .given .1) in (
+      l .inv .2
+          ∙ ap (behind (take (l .i) (l .values)))
+          (line-no-number (l .left) (drop (l .p) t) (c .before .before .before .loop-test .taken) e),
+      l .inv .3,
+    )
 
 separator-requires : tie.Need-separator-requires Inv-loop μ-loop
 separator-requires c κs = search needs
@@ -67,22 +88,26 @@ enum-told-2 : tie.Need-enum-told-2 Inv-loop μ-loop
 enum-told-2 c = search needs
 
 same-length-2 : tie.Need-same-length-2 Inv-loop μ-loop
-same-length-2 c = c .before .before .before .before .before .before .before .before .loop .inv .1
+same-length-2 c = turn (c .before .before .before) .loop .inv .1
 
 returns-2 : tie.Need-returns-2 Inv-loop μ-loop
 returns-2 c =
     let r = c .before .before .before in
-    let k = r .before .before .before .before .before in
-    let l = k .loop in
-    let t = k .before .before .args .text .now in
+    let l = turn r .loop in
+    let t = text r in
     let v = r .before .read .given .0 in
-    let e = c .before .before .separator .ensures ∙ ap (readTo t tt) (c .enum-told2 .given .1) in (
-      l .inv .2 ∙ ap (behind (take (l .i) (l .values))) (line-no-separator (l .left) (drop (l .p) t) (r .before .before .before .before .loop-test .taken) (v .0) (drop (v .1 .0) t) (read r) e),
+    let e = c .before .before .separator .ensures ∙ ap (readTo t tt) (c .enum-told2 .given .1) in
+    let test = r .before .before .before .before .loop-test .taken in (
+      l .inv .2
+          ∙ ap (behind (take (l .i) (l .values)))
+          (line-no-separator (l .left) (drop (l .p) t) test (v .0) (drop (v .1 .0) t) (read r) e),
       l .inv .3,
     )
 
 mul-value : tie.Need-mul-value Inv-loop μ-loop
-mul-value c = let s = c .before .before .before .before .before .before .before .before .before .before .before in omega (arith, s .good, s .pre)
+mul-value c =
+    let s = turn (c .before .before .before .before) .before .before in
+    omega (arith, s .good, s .pre)
 
 slice-set-from-value : tie.Need-slice-set-from-value Inv-loop μ-loop
 slice-set-from-value c = omega arith
@@ -96,19 +121,21 @@ loop-less c = omega arith
 loop-again : tie.Need-loop-again Inv-loop μ-loop
 loop-again c =
     let r = c .before .before .before .before in
-    let k = r .before .before .before .before .before in
-    let l = k .loop in
-    let a = k .before .before .args in
-    let t = a .text .now in
+    let l = turn r .loop in
+    let a = turn r .before .before .args in
+    let t = text r in
     let v = r .before .read .given .0 in
     let z = v .0 in
     let w = drop (c .before .parted .given .0 .0) t in
     let e = c .before .before .before .separator .ensures ∙ ap (readTo t tt) (c .before .parted .given .1) in
     let h : l .i < length (l .values) = omega arith in
+    let test = r .before .before .before .before .loop-test .taken in
     rw (kept z (r .known-told .given .0 .1)) (
       omega arith,
       length-set (l .values) (l .i) z ∙ l .inv .1,
-      l .inv .2 ∙ ap (behind (take (l .i) (l .values))) (line-next (l .left) (drop (l .p) t) (r .before .before .before .before .loop-test .taken) z (drop (v .1 .0) t) (read r) w e)
+      l .inv .2
+          ∙ ap (behind (take (l .i) (l .values)))
+          (line-next (l .left) (drop (l .p) t) test z (drop (v .1 .0) t) (read r) w e)
           ∙ behind-stored (l .values) (l .i) z (line (l .left - 1) w) h,
       drop-set-lt (a .count) (l .values) (l .i) z (omega arith) ∙ l .inv .3,
     )

@@ -1,4 +1,5 @@
--- `literal` meets its contract. Where the bytes so far agree, the whole reading is that of the rest of the name from the position reached.
+-- `literal` meets its contract. Where the bytes so far agree, the whole reading is that of the rest of the name from
+-- the position reached.
 use Prim.Native.Nat.{_-_}
 use mathlib.Core.Path.{_≡_, refl, _∙_}
 use native.Mathlib.Omega.{arith}
@@ -23,7 +24,8 @@ returns : tie.Need-returns Inv-loop μ-loop
 returns c =
     let l = c .before .before .loop in
     let a = c .before .before .before .before .before .args in
-    l .inv ∙ literal-short (a .name .now) (l .matched) (a .text .now) (l .p) (c .before .loop-test .taken) (c .if1 .taken)
+    l .inv
+    ∙ literal-short (a .name .now) (l .matched) (a .text .now) (l .p) (c .before .loop-test .taken) (c .if1 .taken)
 
 shared-slice-read-same-byte : tie.Need-shared-slice-read-same-byte Inv-loop μ-loop
 shared-slice-read-same-byte c = omega arith

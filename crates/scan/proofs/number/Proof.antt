@@ -31,15 +31,24 @@ returns : tie.Need-returns
 returns c =
     let k = c .before .before in
     let a = k .before .before .before .args in
-    number-minus (a .at) (a .text .now) (rw (← k .before .byte-at .ensures, ← k .is-minus .ensures) (c .before .if1 .taken)) ∙ c .signed-natural .ensures
+    number-minus (a .at) (a .text .now)
+    (rw (← k .before .byte-at .ensures, ← k .is-minus .ensures) (c .before .if1 .taken)) ∙ c .signed-natural .ensures
 
 returns-2 : tie.Need-returns-2
 returns-2 c =
     let k = c .before .before in
     let a = k .before .before .before .args in
-    number-plain (drop (a .at) (a .text .now)) (rw (← k .before .byte-at .ensures, ← k .is-minus .ensures) (c .before .if1 .left)) ∙ c .signed-natural2 .ensures
+    number-plain (drop (a .at) (a .text .now))
+    (rw (← k .before .byte-at .ensures, ← k .is-minus .ensures) (c .before .if1 .left)) ∙ c .signed-natural2 .ensures
 
 pub number-spec : {M : Type 1} → statement M
 number-spec =
     tie.close
-    (tie.spec byte-at-requires is-minus-requires add-signed-natural signed-natural-requires signed-natural-requires-2 returns returns-2)
+    (tie.spec
+    byte-at-requires
+    is-minus-requires
+    add-signed-natural
+    signed-natural-requires
+    signed-natural-requires-2
+    returns
+    returns-2)

@@ -31,20 +31,29 @@ returns : tie.Need-returns
 returns c =
     let k = c .before .before in
     let a = k .before .before .before .args in
-    rw (k .if1 .taken) (separator-last (a .at) (a .text .now) ∙ rw (← k .before .byte-at .ensures, ← c .before .ends-line .ensures, c .if2 .taken))
+    rw (k .if1 .taken)
+    (separator-last (a .at) (a .text .now)
+    ∙ rw (← k .before .byte-at .ensures, ← c .before .ends-line .ensures, c .if2 .taken))
 
 returns-2 : tie.Need-returns-2
 returns-2 c =
     let k = c .before .before in
     let a = k .before .before .before .args in
-    rw (k .if1 .taken) (separator-last (a .at) (a .text .now) ∙ rw (← k .before .byte-at .ensures, ← c .before .ends-line .ensures, c .if2 .left))
+    rw (k .if1 .taken)
+    (separator-last (a .at) (a .text .now)
+    ∙ rw (← k .before .byte-at .ensures, ← c .before .ends-line .ensures, c .if2 .left))
 
 returns-3 : tie.Need-returns-3
 returns-3 c =
     let k = c .before .before .before in
     let a = k .before .before .before .args in
     separator-more (a .more) (drop (a .at) (a .text .now)) (k .if1 .left)
-    ∙ rw (← k .before .byte-at .ensures, ← c .before .before .is-space .ensures, c .before .if3 .taken, c .spaces .ensures)
+    ∙ rw (
+      ← k .before .byte-at .ensures,
+      ← c .before .before .is-space .ensures,
+      c .before .if3 .taken,
+      c .spaces .ensures,
+    )
 
 returns-4 : tie.Need-returns-4
 returns-4 c =
@@ -54,4 +63,15 @@ returns-4 c =
     ∙ rw (← k .before .byte-at .ensures, ← c .before .is-space .ensures, c .if3 .left)
 
 pub separator-spec : {M : Type 1} → statement M
-separator-spec = tie.close (tie.spec byte-at-requires ends-line-requires add-t9 is-space-requires spaces-requires returns returns-2 returns-3 returns-4)
+separator-spec =
+    tie.close
+    (tie.spec
+    byte-at-requires
+    ends-line-requires
+    add-t9
+    is-space-requires
+    spaces-requires
+    returns
+    returns-2
+    returns-3
+    returns-4)

@@ -1,6 +1,7 @@
 -- `signed_natural` meets its contract.
-use Prim.Native.Nat.{_≤_}
+use Prim.Native.Nat.{ℕ, _≤_}
 use mathlib.Core.Path.{_≡_}
+use mathlib.Core.List.{List}
 use native.Mathlib.Omega.{arith}
 use borrow.Author.Needs.{needs}
 use lib.IntN.{pos, negℤ, +ℤ-idl}
@@ -8,36 +9,43 @@ use lib.ListN.{drop}
 use mir.Syntax.{w32}
 use mir.Val.{SFits, toZ}
 use mir.Facts.{toZ-ofZ, toZ-pos}
+use Rattle.calls.specs.SignLaws.{size-neg}
+use Rattle.scan.specs.declared.Natural.{Natural}
 use Rattle.scan.specs.Reading.{found}
 use Rattle.scan.specs.Numbers.{natural}
-use Rattle.scan.specs.ScanLaws.{natural-missing, natural-found, natural-size, size-neg}
+use Rattle.scan.specs.ScanLaws.{natural-missing, natural-found, natural-size}
 use Rattle.scan.proofs.Signed.{six-digits-fit}
 use Rattle.scan.proofs.signed_natural.Statement.{statement}
 use Rattle.scan.proofs.signed_natural.Tie as tie
 
-read : (c : tie.After-struct-known) →
-    let a = c .before .before .before .before .before .before .args in
-    let r = c .before .digits .result in
-    natural (drop (a .at) (a .text .now)) ≡ found (r .value) (drop (r .next) (a .text .now))
-read c =
-    let k = c .before .before in
-    let a = k .before .before .before .before .args in
-    let r = c .before .digits .result in
-    natural-found (drop (a .at) (a .text .now)) (r .value) (drop (r .next) (a .text .now))
-    (rw (← k .before .before .byte-at .ensures, ← k .before .is-digit .ensures) (k .if1 .taken))
-    (c .before .digits .ensures)
+-- what the function is handed, and the digits that were read
+module _ (c : tie.After-struct-known) where
+  abbrev test : tie.Then1
+  test = c .before .before
 
-small : (c : tie.After-struct-known) → c .before .digits .result .value ≤ 999999
-small c =
-    let a = c .before .before .before .before .before .before .args in
-    let r = c .before .digits .result in natural-size (drop (a .at) (a .text .now)) (r .value) (drop (r .next) (a .text .now)) (read c)
+  abbrev text : List ℕ
+  text = test .before .before .before .before .args .text .now
 
-plain : (c : tie.After-struct-known) → toZ w32 (c .before .digits .result .value) ≡ pos (c .before .digits .result .value)
-plain c = toZ-pos w32 (omega (arith, small c))
+  abbrev here : List ℕ
+  here = drop (test .before .before .before .before .args .at) text
 
-negated-fits : (c : tie.After-struct-known) → SFits w32 (negℤ (pos (c .before .digits .result .value)))
-negated-fits c =
-    let z = pos (c .before .digits .result .value) in six-digits-fit (negℤ z) (omega (arith, size-neg z, small c))
+  abbrev r : Natural
+  r = c .before .digits .result
+
+  read : natural here ≡ found (r .value) (drop (r .next) text)
+  read =
+      natural-found here (r .value) (drop (r .next) text)
+      (rw (← test .before .before .byte-at .ensures, ← test .before .is-digit .ensures) (test .if1 .taken))
+      (c .before .digits .ensures)
+
+  small : r .value ≤ 999999
+  small = natural-size here (r .value) (drop (r .next) text) read
+
+  plain : toZ w32 (r .value) ≡ pos (r .value)
+  plain = toZ-pos w32 (omega (arith, small))
+
+  negated-fits : SFits w32 (negℤ (pos (r .value)))
+  negated-fits = six-digits-fit (negℤ (pos (r .value))) (omega (arith, size-neg (pos (r .value)), small))
 
 byte-at-requires : tie.Need-byte-at-requires
 byte-at-requires c κs = search needs
@@ -63,7 +71,8 @@ returns-2 c = simp (read (c .before), plain (c .before), c .if2 .left)
 returns-3 : tie.Need-returns-3
 returns-3 c =
     let a = c .before .before .before .before .args in
-    rw (natural-missing (drop (a .at) (a .text .now)) (rw (← c .before .before .byte-at .ensures, ← c .before .is-digit .ensures) (c .if1 .left)))
+    rw (natural-missing (drop (a .at) (a .text .now))
+    (rw (← c .before .before .byte-at .ensures, ← c .before .is-digit .ensures) (c .if1 .left)))
 
 pub signed-natural-spec : {M : Type 1} → statement M
 signed-natural-spec =

@@ -16,7 +16,8 @@ Inv-loop text at p₀ p = spaces (drop at text) ≡ spaces (drop p text)
 abbrev μ-loop : tie.MeasureT-loop
 μ-loop text at p₀ p = length text - p
 
-in-text : (c : tie.Then1 Inv-loop μ-loop) → let k = c .before .before .before in k .loop .p < length (k .before .before .args .text .now)
+in-text : (c : tie.Then1 Inv-loop μ-loop)
+    → let k = c .before .before .before in k .loop .p < length (k .before .before .args .text .now)
 in-text c =
     let b = c .before .before in
     let e = eqb-true (b .byte-at .result) 32 (sym (c .before .is-space .ensures) ∙ c .if1 .taken) in
@@ -41,13 +42,19 @@ loop-again : tie.Need-loop-again Inv-loop μ-loop
 loop-again c =
     let b = c .before .before in
     let l = b .before .loop in
-    l .inv ∙ spaces-next (l .p) (b .before .before .before .args .text .now) (rw (← b .byte-at .ensures, ← c .before .is-space .ensures) (c .if1 .taken))
+    l .inv
+    ∙ spaces-next (l .p) (b .before .before .before .args .text .now)
+    (rw (← b .byte-at .ensures, ← c .before .is-space .ensures) (c .if1 .taken))
 
 returns : tie.Need-returns Inv-loop μ-loop
 returns c =
     let b = c .before .before in
     let l = b .before .loop in
-    l .inv ∙ spaces-end (drop (l .p) (b .before .before .before .args .text .now)) (rw (← b .byte-at .ensures, ← c .before .is-space .ensures) (c .if1 .left))
+    l .inv
+    ∙ spaces-end (drop (l .p) (b .before .before .before .args .text .now))
+    (rw (← b .byte-at .ensures, ← c .before .is-space .ensures) (c .if1 .left))
 
 pub spaces-spec : {M : Type 1} → statement M
-spaces-spec = tie.close (tie.spec Inv-loop μ-loop loop-holds byte-at-requires is-space-requires add-p loop-less loop-again returns)
+spaces-spec =
+    tie.close
+    (tie.spec Inv-loop μ-loop loop-holds byte-at-requires is-space-requires add-p loop-less loop-again returns)

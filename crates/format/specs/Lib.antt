@@ -1,0 +1,5 @@
+pub mod Decimal
+pub mod Wrote
+pub mod DecimalLaws
+pub mod WroteLaws
+pub mod Cases

@@ -1,6 +1,0 @@
-pub mod Input
-pub mod Answers
-pub mod InputLaws
-pub mod ReadLaws
-pub mod WholeNumbers
-pub mod Cases

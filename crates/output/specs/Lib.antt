@@ -1,4 +1,0 @@
-pub mod Report
-pub mod Working
-pub mod ReportLaws
-pub mod Cases

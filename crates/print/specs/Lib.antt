@@ -1,6 +1,0 @@
-pub mod Bytes
-pub mod Decimal
-pub mod Wrote
-pub mod DecimalLaws
-pub mod WroteLaws
-pub mod Cases

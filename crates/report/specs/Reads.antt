@@ -1,8 +1,0 @@
--- What one read of standard input may give: a failure, or as many bytes as there was room for. Definitions only.
-use Prim.Native.Nat.{ℕ, _≤_}
-use Rattle.report.specs.declared.Got.{Got}
-use Rattle.report.specs.declared.Got.the-variants.{Bytes, Failed}
-
-abbrev pub GotAtMost : ℕ → Got → Type 0
-GotAtMost most (Bytes n) = n ≤ most
-GotAtMost most Failed = Unit

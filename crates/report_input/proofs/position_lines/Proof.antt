@@ -1,0 +1,149 @@
+-- `position_lines` meets its contract.
+use Prim.Native.Nat.{ℕ, _-_, _≤_}
+use mathlib.Core.Path.{_≡_, refl, sym, ap, _∙_}
+use native.Mathlib.Omega.{arith}
+use borrow.Author.Needs.{needs}
+use lib.ListN.{length, drop, take, length-set}
+use mir.Syntax.{w16}
+use mir.Val.{toZ, ofZ}
+use mir.Facts.{toZ-ofZ}
+use Rattle.scan.specs.Reading.{found}
+use lib.Seq.{drop-set-lt}
+use Rattle.report_input.specs.Input.{positionLines}
+use Rattle.report_input.specs.InputLaws.{
+  prefixed,
+  prefixed-empty,
+  position-lines-next,
+  position-lines-stop,
+  position-lines-end,
+}
+use Rattle.report_input.specs.Private.{positionRead}
+use Rattle.report_input.proofs.position_lines.Statement.{statement}
+use Rattle.report_input.proofs.position_lines.Tie as tie
+use Rattle.report_input.proofs.position_lines.Reads as reads
+use Rattle.report_input.proofs.position_lines.Lts as lts
+use Rattle.report_input.proofs.position_line.Reads as position-line-reads
+
+abbrev Inv-loop : tie.InvT-loop
+Inv-loop text at n mask₀ llr₀ i₀ next₀ mask llr i next =
+    (i ≤ n)
+    × (length mask ≡ length mask₀)
+    × (length llr ≡ length llr₀)
+    × (drop n mask ≡ drop n mask₀)
+    × (drop n llr ≡ drop n llr₀)
+    × (positionLines n 0 (drop at text)
+    ≡ prefixed (take i mask) (take i llr) (positionLines (n - i) i (drop next text)))
+
+abbrev μ-loop : tie.MeasureT-loop
+μ-loop text at n mask₀ llr₀ i₀ next₀ mask llr i next = n - i
+
+loop-holds : tie.Need-loop-holds Inv-loop μ-loop
+loop-holds c =
+    let a = c .before .before .args in
+    let t = drop (a .at) (a .text .now) in
+    let none : positionLines (a .n - 0) 0 t ≡ positionLines (a .n) 0 t =
+    ap (λ (k : ℕ). positionLines k 0 t) (omega arith) in
+    (omega arith, refl, refl, refl, refl, sym (prefixed-empty (positionLines (a .n - 0) 0 t) ∙ none))
+
+position-line-requires : tie.Need-position-line-requires Inv-loop μ-loop
+position-line-requires c κs = search needs
+
+enum-known-position : tie.Need-enum-known-position Inv-loop μ-loop
+enum-known-position c = search needs
+
+enum-told : tie.Need-enum-told Inv-loop μ-loop
+enum-told c = search needs
+
+same-length : tie.Need-same-length Inv-loop μ-loop
+same-length c = c .before .before .before .before .loop .inv .1
+
+same-length-2 : tie.Need-same-length-2 Inv-loop μ-loop
+same-length-2 c = c .before .before .before .before .loop .inv .2
+
+returns : tie.Need-returns Inv-loop μ-loop
+returns c =
+    let turn = c .before .before .before .before in
+    let a = turn .before .before .before .args in
+    let at = turn .loop in
+    let called =
+    c .before .before .position-line .ensures ∙ ap (positionRead (a .text .now)) (c .enum-told .given .1) in
+    let stop =
+    position-lines-stop (a .n) (at .i) (take (at .i) (at .mask)) (take (at .i) (at .llr))
+    (drop (at .next) (a .text .now)) (omega arith) called in
+    (at .inv .5 ∙ stop, (at .inv .3, at .inv .4))
+
+slice-write-mask : tie.Need-slice-write-mask Inv-loop μ-loop
+slice-write-mask c = omega arith
+
+mul-value : tie.Need-mul-value Inv-loop μ-loop
+mul-value c = omega arith
+
+slice-set-from-value : tie.Need-slice-set-from-value Inv-loop μ-loop
+slice-set-from-value c = omega arith
+
+add-i : tie.Need-add-i Inv-loop μ-loop
+add-i c = omega arith
+
+loop-less : tie.Need-loop-less Inv-loop μ-loop
+loop-less c = omega arith
+
+loop-again : tie.Need-loop-again Inv-loop μ-loop
+loop-again c =
+    let turn = c .before .before .before .before .before in
+    let a = turn .before .before .before .args in
+    let at = turn .loop in
+    let frozen = c .before .position .given .0 .0 in
+    let llr = c .before .position .given .0 .1 .0 in
+    let called = c .before .before .before .position-line .ensures in
+    let line = called ∙ ap (positionRead (a .text .now)) (c .before .position .given .1) in
+    let same : toZ w16 (ofZ w16 llr) ≡ llr = toZ-ofZ {w = w16} (record { sfits = c .known-told .given .1 .0 .1 }) in
+    rw same (
+      omega arith,
+      length-set (at .mask) (at .i) frozen ∙ at .inv .1,
+      length-set (at .llr) (at .i) llr ∙ at .inv .2,
+      drop-set-lt (a .n) (at .mask) (at .i) frozen (omega arith) ∙ at .inv .3,
+      drop-set-lt (a .n) (at .llr) (at .i) llr (omega arith) ∙ at .inv .4,
+      at .inv .5
+          ∙ position-lines-next (a .n) (at .i) (at .mask) (at .llr) (drop (at .next) (a .text .now)) _
+          (record { frozen = frozen; llr = llr }) (omega arith) (omega arith) (omega arith) line,
+    )
+
+same-length-3 : tie.Need-same-length-3 Inv-loop μ-loop
+same-length-3 c = c .before .loop .inv .1
+
+same-length-4 : tie.Need-same-length-4 Inv-loop μ-loop
+same-length-4 c = c .before .loop .inv .2
+
+returns-2 : tie.Need-returns-2 Inv-loop μ-loop
+returns-2 c =
+    let a = c .before .before .before .before .args in
+    let at = c .before .loop in
+    let all : at .i ≡ a .n = omega arith in
+    let rest = drop (at .next) (a .text .now) in
+    let last : prefixed (take (at .i) (at .mask)) (take (at .i) (at .llr)) (positionLines (a .n - at .i) (at .i) rest)
+    ≡ found (record { mask = take (a .n) (at .mask); llr = take (a .n) (at .llr) }) rest =
+    rw all (position-lines-end (a .n) (take (a .n) (at .mask)) (take (a .n) (at .llr)) rest) in
+    (at .inv .5 ∙ last, (at .inv .3, at .inv .4))
+
+pub position-lines-spec : {M : Type 1} → statement M
+position-lines-spec =
+    tie.close
+    (tie.spec
+    Inv-loop
+    μ-loop
+    loop-holds
+    position-line-requires
+    enum-known-position
+    enum-told
+    same-length
+    same-length-2
+    returns
+    slice-write-mask
+    mul-value
+    slice-set-from-value
+    add-i
+    loop-less
+    loop-again
+    same-length-3
+    same-length-4
+    returns-2)

@@ -1,0 +1,99 @@
+-- `read_block` meets its contract.
+use Prim.Native.Nat.{ℕ, _≤_, _^_}
+use mathlib.Core.Path.{_≡_, sym, ap, _∙_}
+use mathlib.Core.Bool.{true}
+use mathlib.Core.List.{List}
+use native.Mathlib.Omega.{arith}
+use borrow.Author.Tests.{not-true, not-false}
+use lib.ListN.{drop}
+use lib.Pow.{pow-mono}
+use Rattle.calls.specs.declared.Refusal.the-variants.{BlockLength}
+use Rattle.calls.specs.Numbers.{numberOf, between}
+use Rattle.calls.specs.NumberLaws.{between-passed}
+use Rattle.report_input.specs.InputLaws.{read-refused, sized-refused, sized-tested, refused-block, read-accepted}
+use borrow.Author.Needs.{needs}
+use Rattle.report_input.proofs.read_block.Statement.{statement}
+use Rattle.report_input.proofs.read_block.Tie as tie
+use Rattle.report_input.proofs.read_block.Reads as reads
+use Rattle.report_input.proofs.read_block.Lts as lts
+use Rattle.report_input.proofs.is_block_length.Reads as is-block-length-reads
+use Rattle.report_input.proofs.refusal.Reads as refusal-reads
+use Rattle.report_input.proofs.position_lines.Reads as position-lines-reads
+use Rattle.polar.proofs.power_of_two.Reads as power-of-two-reads
+
+-- what the function is handed, where the block length is in its range
+module _ (c : tie.Else1) where
+  abbrev start : tie.Start
+  start = c .before .before .before
+
+  abbrev behind : List ℕ
+  behind = drop (start .args .at) (start .args .text .now)
+
+  passed : between 1 10 (start .args .settings .m) ≡ true
+  passed = sym (c .before .is-block-length .ensures) ∙ not-false (c .before .is-block-length .result) (c .if1 .left)
+
+  range : let m = start .args .settings .m in (1 ≤ m) × (m ≤ 10)
+  range = between-passed 1 10 (start .args .settings .m) passed
+
+small : (c : tie.After-power-of-two) → c .power-of-two .result ≤ 2 ^ 10
+small c = rw (c .power-of-two .ensures) (pow-mono (range (c .before .before .before .before) .1))
+
+is-block-length-requires : tie.Need-is-block-length-requires
+is-block-length-requires c κs = search needs
+
+returns : tie.Need-returns
+returns c =
+    let a = c .before .before .before .args in
+    let called = c .before .is-block-length in
+    let tested = sym (called .ensures) ∙ not-true (called .result) (c .if1 .taken) in
+    read-refused BlockLength (sized-refused (a .settings) (drop (a .at) (a .text .now)) tested)
+
+refusal-requires : tie.Need-refusal-requires
+refusal-requires c κs = range c
+
+enum-known-refusal : tie.Need-enum-known-refusal
+enum-known-refusal c = search needs
+
+enum-told : tie.Need-enum-told
+enum-told c = search needs
+
+power-of-two-requires : tie.Need-power-of-two-requires
+power-of-two-requires c κs = range (c .before .before .before) .1
+
+position-lines-requires : tie.Need-position-lines-requires
+position-lines-requires c κs =
+    omega (arith, small (c .before .before), c .before .position-lines-arg .given, c .position-lines-arg2 .given)
+
+returns-2 : tie.Need-returns-2
+returns-2 c =
+    let range = c .before .before .before .before in
+    let refusal = c .before .refusal2 .given .0 .0 in
+    let called = sym (ap numberOf (c .before .refusal2 .given .1)) ∙ c .before .before .before .refusal .ensures in
+    read-refused refusal
+    (sized-tested (start range .args .settings) (behind range) (passed range) ∙ refused-block refusal _ called)
+
+returns-3 : tie.Need-returns-3
+returns-3 c =
+    let told = c .before .before .before .before in
+    let range = told .before .before .before in
+    let a = start range .args in
+    let n = c .before .before .before .power-of-two in
+    let lines = c .position-lines in
+    let called = sym (ap numberOf (told .enum-told .given .1)) ∙ told .before .before .refusal .ensures in
+    rw (sized-tested (a .settings) (behind range) (passed range))
+    (read-accepted (a .settings) (a .text .now) (behind range) (n .result) (lines .result) called (n .ensures)
+    (lines .ensures .0) (lines .ensures .1 .0) (lines .ensures .1 .1))
+
+pub read-block-spec : {M : Type 1} → statement M
+read-block-spec =
+    tie.close
+    (tie.spec
+    is-block-length-requires
+    returns
+    refusal-requires
+    enum-known-refusal
+    enum-told
+    power-of-two-requires
+    position-lines-requires
+    returns-2
+    returns-3)

@@ -1,0 +1,127 @@
+-- `refusal` meets its contract.
+use Prim.Native.Nat.{ℕ, _^_, _≤_}
+use mathlib.Core.Path.{_≡_, sym, ap, _∙_}
+use mathlib.Core.List.{List}
+use native.Mathlib.Omega.{arith}
+use lib.ListN.{drop}
+use lib.Pow.{pow-mono}
+use lib.Seq.{length-take-le}
+use Rattle.scan.specs.Reading.{Reading, found}
+use Rattle.scan.specs.Answers.{readTo}
+use Rattle.report_input.specs.Input.{Block, blockOf, positionLines}
+use Rattle.report_input.specs.InputLaws.{lines-malformed, lines-followed, lines-number}
+use Rattle.report_input.specs.Private.{firstOf}
+use borrow.Author.Needs.{needs}
+use Rattle.report_input.proofs.refusal.Statement.{statement}
+use Rattle.report_input.proofs.refusal.Tie as tie
+use Rattle.report_input.proofs.refusal.Reads as reads
+use Rattle.report_input.proofs.refusal.Lts as lts
+use Rattle.report_input.proofs.position_lines.Reads as position-lines-reads
+use Rattle.polar.proofs.power_of_two.Reads as power-of-two-reads
+use Rattle.settings.proofs.refusal.Reads as refusal-reads
+
+small : (c : tie.After-power-of-two) → c .power-of-two .result ≤ 2 ^ 10
+small c = rw (c .power-of-two .ensures) (pow-mono (c .before .before .pre .1))
+
+-- what the function is handed, and what the call of `position_lines` read
+module _ (c : tie.After-position-lines) where
+  abbrev start : tie.Start
+  start = c .before .before .before .before .before
+
+  abbrev text : List ℕ
+  text = start .args .text .now
+
+  abbrev block : Block
+  block =
+      let read = c .position-lines .last .1 .1 .1 in
+      firstOf (c .before .before .before .power-of-two .result) (blockOf (read .0) (read .1 .0))
+
+  abbrev lines : Reading Block
+  lines = positionLines (2 ^ start .args .settings .m) 0 (drop (start .args .at) text)
+
+  read : lines ≡ readTo text block (c .position-lines .result)
+  read =
+      ap (λ (n : ℕ). positionLines n 0 (drop (start .args .at) text))
+      (sym (c .before .before .before .power-of-two .ensures))
+      ∙ c .position-lines .ensures .0
+
+module _ (c : tie.After-known-told) where
+  abbrev reading : tie.After-position-lines
+  reading = c .before .before .before .before .before
+
+  at-end : lines reading ≡ found (block reading) (drop (c .before .read .given .0 .0) (text reading))
+  at-end = read reading ∙ ap (readTo (text reading) (block reading)) (c .before .read .given .1)
+
+power-of-two-requires : tie.Need-power-of-two-requires
+power-of-two-requires c κs = search needs
+
+slice-aggregate-position-lines : tie.Need-slice-aggregate-position-lines
+slice-aggregate-position-lines c = search needs
+
+slice-aggregate-position-lines-2 : tie.Need-slice-aggregate-position-lines-2
+slice-aggregate-position-lines-2 c = search needs
+
+position-lines-requires : tie.Need-position-lines-requires
+position-lines-requires c κs = (small (c .before .before), small (c .before .before))
+
+enum-known-read : tie.Need-enum-known-read
+enum-known-read c = search needs
+
+enum-told : tie.Need-enum-told
+enum-told c = search needs
+
+returns : tie.Need-returns
+returns c =
+    let r = c .before .before .before .before in
+    lines-malformed (start r .args .settings) _ (read r ∙ ap (readTo (text r) (block r)) (c .enum-told .given .1))
+
+returns-2 : tie.Need-returns-2
+returns-2 c =
+    let r = reading (c .before) in
+    lines-followed (start r .args .settings) _ (block r) (c .before .before .read .given .0 .0) (text r)
+    (at-end (c .before)) (c .if1 .taken)
+
+array-share-prefix-mask : tie.Need-array-share-prefix-mask
+array-share-prefix-mask c =
+    let r = c .before .before .before .before .before in
+    omega (arith, r .mask2 .given, small (r .before .before .before .before))
+
+slice-aggregate-refusal : tie.Need-slice-aggregate-refusal
+slice-aggregate-refusal c = sym (length-take-le _ _ (array-share-prefix-mask (c .before)))
+
+array-share-prefix-llr : tie.Need-array-share-prefix-llr
+array-share-prefix-llr c =
+    let r = c .before .before .before .before .before in
+    omega (arith, r .llr2 .given, small (r .before .before .before .before .before))
+
+slice-aggregate-refusal-2 : tie.Need-slice-aggregate-refusal-2
+slice-aggregate-refusal-2 c = sym (length-take-le _ _ (array-share-prefix-llr (c .before)))
+
+refusal-requires : tie.Need-refusal-requires
+refusal-requires c κs = search needs
+
+returns-3 : tie.Need-returns-3
+returns-3 c =
+    let told = c .before .before .before .before in
+    let r = reading told in
+    c .refusal .ensures
+    ∙ lines-number (start r .args .settings) _ (block r) _ (text r) (at-end told) (c .before .before .before .if1 .left)
+
+pub refusal-spec : {M : Type 1} → statement M
+refusal-spec =
+    tie.close
+    (tie.spec
+    power-of-two-requires
+    slice-aggregate-position-lines
+    slice-aggregate-position-lines-2
+    position-lines-requires
+    enum-known-read
+    enum-told
+    returns
+    returns-2
+    array-share-prefix-mask
+    slice-aggregate-refusal
+    array-share-prefix-llr
+    slice-aggregate-refusal-2
+    refusal-requires
+    returns-3)

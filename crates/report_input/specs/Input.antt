@@ -1,0 +1,178 @@
+-- Document 01, "The report's text": what an input means, in the order of the section's sentences. Definitions only.
+use Prim.Native.Nat.{ℕ, zero, suc, _+_, _*_, _^_, min}
+use mathlib.Core.Path.{_≡_}
+use mathlib.Core.Bool.{cond}
+use mathlib.Core.List.{List, [], _∷_, _++_}
+use lib.Dec.{leb, eqb}
+use lib.IntN.{ℤ, pos, negsuc, natAbs}
+use lib.ListN.{length, getD, drop}
+use Rattle.calls.specs.Numbers.{between, refusalNumber}
+use Rattle.calls.specs.Signs.{isNegative, flipped}
+use Rattle.settings.specs.declared.Settings.{Settings}
+use Rattle.settings.specs.declared.Room.{Room}
+use Rattle.settings.specs.Settings.{decodeNumber}
+use Rattle.scan.specs.Reading.{Reading, found, malformed, bind}
+use Rattle.scan.specs.Lines.{line, literal}
+use Rattle.calls.specs.Texts.{bytes}
+use Rattle.report_input.specs.declared.Input.{Input}
+use Rattle.report_input.specs.declared.Input.the-variants.{Accepted, Refused}
+
+-- ---- constants
+
+-- the most bytes of an accepted text
+abbrev pub longestText : ℕ
+longestText = 32768
+
+-- what a value below zero counts as: it lies outside every range as well
+abbrev pub outsideRanges : ℕ
+outsideRanges = 1000000
+
+-- the positions of the largest block, m = 10, and the elements of its workspace: 1,024 and 22,528
+abbrev pub mostPositions : ℕ
+mostPositions = 2 ^ 10
+
+abbrev pub mostWorkspace : ℕ
+mostWorkspace = 2 * (10 + 1) * 2 ^ 10
+
+-- ---- the first three lines
+
+abbrev pub settingNames : List ℕ
+settingNames = bytes "m ceiling scale limit criterion operand\n"
+
+abbrev pub positionNames : List ℕ
+positionNames = bytes "position frozen llr\n"
+
+-- a value at its place in a line
+abbrev pub valueAt : List ℤ → ℕ → ℤ
+valueAt zs i = getD zs i (pos 0)
+
+-- a value that can't be below zero
+abbrev pub unsigned : ℤ → ℕ
+unsigned (pos n) = n
+unsigned (negsuc n) = outsideRanges
+
+-- the settings in the order of their names
+abbrev pub settingsOf : List ℤ → Settings
+settingsOf zs =
+    record {
+      m = unsigned (valueAt zs 0);
+      ceiling = unsigned (valueAt zs 1);
+      scale = unsigned (valueAt zs 2);
+      limit = unsigned (valueAt zs 3);
+      criterion = unsigned (valueAt zs 4);
+      operand = unsigned (valueAt zs 5);
+    }
+
+unfoldable pub head : List ℕ → Reading Settings
+head t =
+    bind (literal settingNames t) (λ _ s.
+    bind (line 6 s) (λ zs s.
+    bind (literal positionNames s) (λ _ s. found (settingsOf zs) s)))
+
+-- ---- the lines of the positions
+
+-- a mask value; one beyond a byte counts as 255, which is no mask value either
+abbrev pub maskValue : ℤ → ℕ
+maskValue z = min (unsigned z) 255
+
+-- an LLR; one beyond 16 bits counts as 32,767 with its sign, which is above every ceiling as well
+abbrev pub llrValue : ℤ → ℤ
+llrValue z = flipped (isNegative z) (pos (min (natAbs z) 32767))
+
+pub record PositionInput : Type 0 where
+  pub frozen : ℕ
+  pub llr : ℤ
+
+-- the line of position p
+unfoldable pub positionLine : ℕ → List ℕ → Reading PositionInput
+positionLine p s =
+    bind (line 3 s) (λ zs s.
+    cond (eqb (unsigned (valueAt zs 0)) p)
+    (found (record { frozen = maskValue (valueAt zs 1); llr = llrValue (valueAt zs 2) }) s)
+    malformed)
+
+pub record Block : Type 0 where
+  pub mask : List ℕ
+  pub llr : List ℤ
+
+abbrev pub blockOf : List ℕ → List ℤ → Block
+blockOf mask llr = record { mask = mask; llr = llr }
+
+abbrev pub above : PositionInput → Block → Block
+above r b = blockOf (r .frozen ∷ b .mask) (r .llr ∷ b .llr)
+
+-- the lines of n positions from p on
+unfoldable pub positionLines : ℕ → ℕ → List ℕ → Reading Block
+positionLines zero p s = found (blockOf [] []) s
+positionLines (suc n) p s =
+    bind (positionLine p s) (λ r s.
+    bind (positionLines n (suc p) s) (λ b s. found (above r b) s))
+
+-- ---- the meaning: settings, mask and LLRs, or the number of a refusal
+
+pub data Meaning : Type 0 where
+  refused : ℕ → Meaning
+  block : Settings → Block → Meaning
+
+-- room for a block of any length, so that 7 can't be
+abbrev pub largestLengths : Room
+largestLengths =
+    record {
+      soft = mostPositions;
+      mark = mostPositions;
+      «coded_soft» = mostPositions;
+      «coded_mark» = mostPositions;
+      work = mostWorkspace;
+    }
+
+-- the decoder's number of a block
+abbrev pub blockNumber : Settings → Block → ℕ
+blockNumber s b = decodeNumber s (b .mask) (b .llr) largestLengths
+
+abbrev pub meaningBy : ℕ → Settings → Block → Meaning
+meaningBy zero s b = block s b
+meaningBy (suc number) s b = refused (suc number)
+
+-- the rest is tested for 14 (nothing follows the last line), then come the decoder's numbers
+abbrev pub tested : Settings → Reading Block → Meaning
+tested s (found b []) = meaningBy (blockNumber s b) s b
+tested s (found b (x ∷ behind)) = refused 14
+tested s malformed = refused 14
+
+-- the first three lines are tested for 14, then m for 1
+abbrev pub sized : Reading Settings → Meaning
+sized (found s behind) = cond (between 1 10 (s .m)) (tested s (positionLines (2 ^ s .m) 0 behind)) (refused 1)
+sized malformed = refused 14
+
+-- a text that is too long is 14 before anything else
+unfoldable pub meaning : List ℕ → Meaning
+meaning t = cond (leb (length t) longestText) (sized (head t)) (refused 14)
+
+-- ---- the promise of `read`: its answer, and the lent slices afterwards, by the meaning of the text
+
+pub data ReadAnswer : Type 0 where
+  accepted : Settings → ReadAnswer
+  rejected : ℕ → ReadAnswer
+
+abbrev pub readAnswer : Meaning → ReadAnswer
+readAnswer (refused number) = rejected number
+readAnswer (block s b) = accepted s
+
+abbrev pub answerOf : Input → ReadAnswer
+answerOf (Accepted s) = accepted s
+answerOf (Refused r) = rejected (refusalNumber r)
+
+-- values from the first element on, the old contents behind them
+module _ {A : Type 0} where
+  abbrev pub writtenOver : List A → List A → List A
+  writtenOver values old = values ++ drop (length values) old
+
+-- the lent slices: after a refusal as they were
+abbrev pub slicesAfter : Meaning → Block → Block
+slicesAfter (refused number) old = old
+slicesAfter (block s b) old = blockOf (writtenOver (b .mask) (old .mask)) (writtenOver (b .llr) (old .llr))
+
+-- `before` and `after` are the contents of the lent slices
+pub record InputRead (means : Meaning) (before after : Block) (r : Input) : Type 0 where
+  pub answer : answerOf r ≡ readAnswer means
+  pub after-is : after ≡ slicesAfter means before

@@ -1,0 +1,302 @@
+-- Laws of the input: how its lines are read one by one, and what an accepted block is.
+use Prim.Native.Nat.{ℕ, zero, suc, _+_, _-_, _^_, _<_, _≤_}
+use mathlib.Core.Path.{_≡_, refl, sym, ap, ap₂, _∙_, subst}
+use mathlib.Core.Bool.{Bool, true, false, cond, true≢false}
+use mathlib.Core.List.{List, [], _∷_, _++_, append-assoc, append-nil}
+use native.Mathlib.Numerals.{add-one}
+use native.Mathlib.Omega.{arith}
+use lib.Dec.{leb, eqb, lit<}
+use lib.IntN.{ℤ, pos}
+use borrow.Author.Tests.{le-leb, lt-leb}
+use lib.ListN.{length, drop, take, set, drop-of-length-le, take-append-drop}
+use lib.Seq.{take-suc-set, getD-take, drop-cons}
+use Rattle.calls.specs.declared.Refusal.{Refusal}
+use Rattle.calls.specs.Numbers.{between, refusalNumber, andThen}
+use Rattle.calls.specs.NumberLaws.{refused-first}
+use Rattle.settings.specs.declared.Settings.{Settings}
+use Rattle.scan.specs.Reading.{Reading, found, malformed, bind}
+use Rattle.report_input.specs.Input.{
+  longestText,
+  valueAt,
+  unsigned,
+  maskValue,
+  llrValue,
+  settingNames,
+  positionNames,
+  settingsOf,
+  PositionInput,
+  Block,
+  blockOf,
+  above,
+  positionLine,
+  positionLines,
+  head,
+  Meaning,
+  refused,
+  block,
+  blockNumber,
+  meaningBy,
+  tested,
+  sized,
+  meaning,
+  writtenOver,
+  InputRead,
+}
+use Rattle.scan.specs.Lines.{line, literal}
+use Rattle.scan.specs.declared.Next.{Next}
+use Rattle.scan.specs.declared.Next.the-variants.{At, Malformed}
+use Rattle.scan.specs.Answers.{readTo}
+use Rattle.report_input.specs.Private.{firstOf, numberIn}
+use Rattle.report_input.specs.declared.Input.the-variants.{Accepted, Refused}
+
+-- ---- one line
+
+pub position-line-found : (p : ℕ) (zs : List ℤ) (s t : List ℕ) → line 3 s ≡ found (take 3 zs) t
+    → positionLine p s
+    ≡ cond (eqb (unsigned (valueAt zs 0)) p)
+    (found (record { frozen = maskValue (valueAt zs 1); llr = llrValue (valueAt zs 2) }) t) malformed
+unfolding positionLine
+position-line-found p zs s t e =
+    rw (e, getD-take 3 zs 0 (pos 0) (lit< tt), getD-take 3 zs 1 (pos 0) (lit< tt), getD-take 3 zs 2 (pos 0) (lit< tt))
+
+pub position-line-malformed : (p : ℕ) (s : List ℕ) → line 3 s ≡ malformed → positionLine p s ≡ malformed
+unfolding positionLine
+position-line-malformed p s e = rw e
+
+pub head-found : (t second third behind : List ℕ) (zs : List ℤ) → literal settingNames t ≡ found tt second
+    → line 6 second ≡ found (take 6 zs) third
+    → literal positionNames third ≡ found tt behind → head t ≡ found (settingsOf zs) behind
+unfolding head
+head-found t second third behind zs one two three =
+    rw (
+      one,
+      two,
+      three,
+      getD-take 6 zs 0 (pos 0) (lit< tt),
+      getD-take 6 zs 1 (pos 0) (lit< tt),
+      getD-take 6 zs 2 (pos 0) (lit< tt),
+      getD-take 6 zs 3 (pos 0) (lit< tt),
+      getD-take 6 zs 4 (pos 0) (lit< tt),
+      getD-take 6 zs 5 (pos 0) (lit< tt),
+    )
+
+pub head-first : (t : List ℕ) → literal settingNames t ≡ malformed → head t ≡ malformed
+unfolding head
+head-first t one = rw one
+
+pub head-second : (t second : List ℕ) → literal settingNames t ≡ found tt second → line 6 second ≡ malformed
+    → head t ≡ malformed
+unfolding head
+head-second t second one two = rw (one, two)
+
+pub head-third : (t second third : List ℕ) (zs : List ℤ) → literal settingNames t ≡ found tt second
+    → line 6 second ≡ found zs third
+    → literal positionNames third ≡ malformed → head t ≡ malformed
+unfolding head
+head-third t second third zs one two three = rw (one, two, three)
+
+-- ---- the lines of the positions
+
+-- values read before, in front of a block still to be read
+abbrev pub behind : List ℕ → List ℤ → Block → Block
+behind mask llr b = blockOf (mask ++ b .mask) (llr ++ b .llr)
+
+abbrev pub prefixed : List ℕ → List ℤ → Reading Block → Reading Block
+prefixed mask llr R = bind R (λ b s. found (behind mask llr b) s)
+
+pub prefixed-empty : (R : Reading Block) → prefixed [] [] R ≡ R
+prefixed-empty malformed = refl
+prefixed-empty (found b s) = refl
+
+prefixed-position : (mask : List ℕ) (llr : List ℤ) (r : PositionInput) (R : Reading Block)
+    → prefixed mask llr (bind R (λ b s. found (above r b) s))
+    ≡ prefixed (mask ++ (r .frozen ∷ [])) (llr ++ (r .llr ∷ [])) R
+prefixed-position mask llr r malformed = refl
+prefixed-position mask llr r (found b s) =
+    rw (append-assoc mask (r .frozen ∷ []) (b .mask), append-assoc llr (r .llr ∷ []) (b .llr))
+
+-- where i of n lines are read: one more
+pub position-lines-next : (n i : ℕ) (mask : List ℕ) (llr : List ℤ) (s t : List ℕ) (r : PositionInput) → i < n
+    → n ≤ length mask → n ≤ length llr → positionLine i s ≡ found r t
+    → prefixed (take i mask) (take i llr) (positionLines (n - i) i s)
+    ≡ prefixed (take (i + 1) (set mask i (r .frozen))) (take (i + 1) (set llr i (r .llr)))
+    (positionLines (n - (i + 1)) (i + 1) t)
+unfolding positionLines
+position-lines-next n i mask llr s t r h mask-long llr-long e =
+    let left : n - i ≡ suc (n - suc i) = omega arith in
+    rw (left, e, add-one i, take-suc-set mask i (r .frozen) (omega arith), take-suc-set llr i (r .llr) (omega arith))
+    (prefixed-position (take i mask) (take i llr) r (positionLines (n - suc i) (suc i) t))
+
+-- no line of the next position
+pub position-lines-stop : (n i : ℕ) (mask : List ℕ) (llr : List ℤ) (s : List ℕ) → i < n → positionLine i s ≡ malformed
+    → prefixed mask llr (positionLines (n - i) i s) ≡ malformed
+unfolding positionLines
+position-lines-stop n i mask llr s h e = let left : n - i ≡ suc (n - suc i) = omega arith in rw (left, e)
+
+-- no line left
+pub position-lines-end : (n : ℕ) (mask : List ℕ) (llr : List ℤ) (s : List ℕ)
+    → prefixed mask llr (positionLines (n - n) n s) ≡ found (blockOf mask llr) s
+unfolding positionLines
+position-lines-end n mask llr s = let left : n - n ≡ 0 = omega arith in rw (left, append-nil mask, append-nil llr)
+
+-- ---- n lines give n mask values and n LLRs
+
+module _ {A : Type 0} where
+  abbrev pub Each : (A → Type 0) → Reading A → Type 0
+  Each P (found a s) = P a
+  Each P malformed = Unit
+
+pub record Long (n : ℕ) (b : Block) : Type 0 where
+  pub mask-long : length (b .mask) ≡ n
+  pub llr-long : length (b .llr) ≡ n
+
+pub position-lines-long : (n p : ℕ) (s : List ℕ) → Each (Long n) (positionLines n p s)
+unfolding positionLines
+position-lines-long zero p s = record { mask-long = refl; llr-long = refl }
+position-lines-long (suc n) p s = first (positionLine p s) (λ s. position-lines-long n (suc p) s)
+  where
+    more : (r : PositionInput) (R : Reading Block) → Each (Long n) R
+        → Each (Long (suc n)) (bind R (λ b s. found (above r b) s))
+    more r malformed h = tt
+    more r (found b s) h = record { mask-long = ap suc (h .mask-long); llr-long = ap suc (h .llr-long) }
+
+    first : (R : Reading PositionInput) → ((s : List ℕ) → Each (Long n) (positionLines n (suc p) s))
+        → Each (Long (suc n)) (bind R (λ r s. bind (positionLines n (suc p) s) (λ b s. found (above r b) s)))
+    first malformed h = tt
+    first (found r s) h = more r (positionLines n (suc p) s) (h s)
+
+-- ---- a block that is accepted
+
+pub record Fit (s : Settings) (b : Block) : Type 0 where
+  pub number : blockNumber s b ≡ 0
+  pub long : Long (2 ^ s .m) b
+
+abbrev pub Means : Meaning → Type 0
+Means (refused number) = Unit
+Means (block s b) = Fit s b
+
+meaning-by : (n : ℕ) (s : Settings) (b : Block) → blockNumber s b ≡ n → Long (2 ^ s .m) b → Means (meaningBy n s b)
+meaning-by zero s b e long = record { number = e; long = long }
+meaning-by (suc n) s b e long = tt
+
+tested-fit : (s : Settings) (R : Reading Block) → Each (Long (2 ^ s .m)) R → Means (tested s R)
+tested-fit s malformed long = tt
+tested-fit s (found b []) long = meaning-by (blockNumber s b) s b refl long
+tested-fit s (found b (x ∷ more)) long = tt
+
+sized-fit : (R : Reading Settings) → Means (sized R)
+sized-fit malformed = tt
+sized-fit (found s t) = either (between 1 10 (s .m))
+  where
+    either : (ok : Bool) → Means (cond ok (tested s (positionLines (2 ^ s .m) 0 t)) (refused 1))
+    either true = tested-fit s (positionLines (2 ^ s .m) 0 t) (position-lines-long (2 ^ s .m) 0 t)
+    either false = tt
+
+-- the meaning of a text is a refusal, or a block that the decoder accepts
+pub meaning-fit : (t : List ℕ) → Means (meaning t)
+unfolding meaning
+meaning-fit t = either (leb (length t) longestText)
+  where
+    either : (ok : Bool) → Means (cond ok (sized (head t)) (refused 14))
+    either true = sized-fit (head t)
+    either false = tt
+
+-- ---- the number of the lines of the positions
+
+pub number-in : (n : ℕ) (s : Settings) (b : Block) → numberIn (meaningBy n s b) ≡ n
+number-in zero s b = refl
+number-in (suc n) s b = refl
+
+pub lines-malformed : (s : Settings) (R : Reading Block) → R ≡ malformed → 14 ≡ numberIn (tested s R)
+lines-malformed s R e = rw e
+
+-- something follows the last line
+pub lines-followed : (s : Settings) (R : Reading Block) (b : Block) (end : ℕ) (t : List ℕ)
+    → R ≡ found b (drop end t) → end < length t
+    → 14 ≡ numberIn (tested s R)
+lines-followed s R b end t e h = rw (e, drop-cons t end 0 h)
+
+pub lines-number : (s : Settings) (R : Reading Block) (b : Block) (end : ℕ) (t : List ℕ)
+    → R ≡ found b (drop end t) → length t ≤ end
+    → blockNumber s b ≡ numberIn (tested s R)
+lines-number s R b end t e h = rw (e, drop-of-length-le t h) (sym (number-in (blockNumber s b) s b))
+
+number-positive : (r : Refusal) → 0 ≡ refusalNumber r → ⊥
+number-positive r e =
+    let one : 1 ≡ refusalNumber r = ap (λ (n : ℕ). andThen n 1) e ∙ refused-first r 1 in omega arith
+
+pub refused-block : (r : Refusal) (means : Meaning) → refusalNumber r ≡ numberIn means
+    → means ≡ refused (refusalNumber r)
+refused-block r (refused number) e = ap refused (sym e)
+refused-block r (block s b) e = absurd (number-positive r (sym e))
+
+-- where no number applies, the lines were read to the end of the text
+pub record Whole (s : Settings) (R : Reading Block) : Type 0 where
+  pub b : Block
+  pub read : R ≡ found b []
+  pub means : tested s R ≡ block s b
+
+pub accepted-block : (s : Settings) (R : Reading Block) → 0 ≡ numberIn (tested s R) → Whole s R
+accepted-block s malformed e = absurd (omega arith)
+accepted-block s (found b (x ∷ more)) e = absurd (omega arith)
+accepted-block s (found b []) e =
+    let zero-number : blockNumber s b ≡ 0 = sym (number-in (blockNumber s b) s b) ∙ sym e in
+    record { b = b; read = refl; means = rw zero-number }
+
+-- ---- an answer that found something found what the definition finds
+
+module _ {A : Type 0} where
+  pub read-found : (t : List ℕ) (a b : A) (s : List ℕ) (r : Next) → readTo t a r ≡ found b s → a ≡ b
+  read-found t a b s (At next) e = ap (orElse a) e
+    where
+      orElse : A → Reading A → A
+      orElse d (found x s) = x
+      orElse d malformed = d
+  read-found t a b s Malformed e = absurd (true≢false (sym (ap isFound e)))
+    where
+      isFound : Reading A → Bool
+      isFound (found x s) = true
+      isFound malformed = false
+
+-- ---- what `read` answers and leaves
+
+pub read-refused : {old : Block} {means : Meaning} (r : Refusal) → means ≡ refused (refusalNumber r)
+    → InputRead means old old (Refused r)
+read-refused r e = rw e (record { answer = refl; after-is = refl })
+
+pub sized-refused : (s : Settings) (t : List ℕ) → between 1 10 (s .m) ≡ false → sized (found s t) ≡ refused 1
+sized-refused s t e = rw e
+
+pub sized-tested : (s : Settings) (t : List ℕ) → between 1 10 (s .m) ≡ true
+    → sized (found s t) ≡ tested s (positionLines (2 ^ s .m) 0 t)
+sized-tested s t e = rw e
+
+-- n elements of a slice were replaced
+replaced : {A : Type 0} (n : ℕ) (old new values : List A) → length values ≡ n → take n new ≡ values
+    → drop n new ≡ drop n old → new ≡ writtenOver values old
+replaced n old new values long first behind =
+    sym (take-append-drop n new) ∙ ap₂ _++_ first behind ∙ ap (λ (k : ℕ). values ++ drop k old) (sym long)
+
+pub read-accepted : (s : Settings) (t u : List ℕ) (n : ℕ) (r : Next) {old new : Block}
+    → 0 ≡ numberIn (tested s (positionLines (2 ^ s .m) 0 u)) → n ≡ 2 ^ s .m
+    → positionLines n 0 u ≡ readTo t (firstOf n new) r
+    → drop n (new .mask) ≡ drop n (old .mask) → drop n (new .llr) ≡ drop n (old .llr)
+    → InputRead (tested s (positionLines (2 ^ s .m) 0 u)) old new (Accepted s)
+read-accepted s t u n r {old} {new} none size seen mask-behind llr-behind =
+    let whole = accepted-block s (positionLines (2 ^ s .m) 0 u) none in
+    let same : positionLines n 0 u ≡ positionLines (2 ^ s .m) 0 u = ap (λ (k : ℕ). positionLines k 0 u) size in
+    let long = subst (Each (Long n)) (same ∙ whole .read) (position-lines-long n 0 u) in
+    let b : firstOf n new ≡ whole .b = read-found t (firstOf n new) (whole .b) [] r (sym seen ∙ same ∙ whole .read) in
+    let mask-is = replaced n (old .mask) (new .mask) (whole .b .mask) (long .mask-long) (ap (λ (x : Block). x .mask) b)
+    mask-behind in
+    let llr-is = replaced n (old .llr) (new .llr) (whole .b .llr) (long .llr-long) (ap (λ (x : Block). x .llr) b)
+    llr-behind in
+    rw (whole .means) (record { answer = refl; after-is = ap₂ blockOf mask-is llr-is })
+
+pub meaning-long : (t : List ℕ) → longestText < length t → meaning t ≡ refused 14
+unfolding meaning
+meaning-long t h = rw (lt-leb (length t) longestText h)
+
+pub meaning-sized : (t : List ℕ) → length t ≤ longestText → meaning t ≡ sized (head t)
+unfolding meaning
+meaning-sized t h = rw (le-leb (length t) longestText h)

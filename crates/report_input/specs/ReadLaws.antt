@@ -1,0 +1,74 @@
+-- What an answer of `read` tells its caller of the text.
+use Prim.Native.Nat.{ℕ, _^_}
+use mathlib.Core.Path.{_≡_, refl, sym, ap, _∙_}
+use mathlib.Core.Bool.{Bool, true, false, true≢false}
+use mathlib.Core.List.{List}
+use lib.ListN.{length, drop, take}
+use lib.Seq.{take-at}
+use Rattle.calls.specs.declared.Refusal.{Refusal}
+use Rattle.calls.specs.Numbers.{refusalNumber}
+use Rattle.settings.specs.declared.Settings.{Settings}
+use Rattle.report_input.specs.Input.{
+  Block,
+  Meaning,
+  refused,
+  block,
+  meaning,
+  ReadAnswer,
+  accepted,
+  rejected,
+  answerOf,
+  InputRead,
+}
+use Rattle.report_input.specs.Private.{firstOf}
+use Rattle.report_input.specs.InputLaws.{Fit, Means, meaning-fit}
+use Rattle.report_input.specs.declared.Input.{Input}
+use Rattle.report_input.specs.declared.Input.the-variants.{Accepted, Refused}
+
+abbrev isAccepted : ReadAnswer → Bool
+isAccepted (accepted s) = true
+isAccepted (rejected number) = false
+
+-- an accepted text means the settings that are answered, and the first n elements of the lent slices
+pub record AcceptedText (means : Meaning) (s : Settings) (b : Block) : Type 0 where
+  pub fit : Fit s b
+  pub is : means ≡ block s b
+
+module _ {old new : Block} {r : Input} where
+  of-accepted : (means : Meaning) (s : Settings) (n : ℕ) → Means means → InputRead means old new r → r ≡ Accepted s
+      → n ≡ 2 ^ s .m → AcceptedText means s (firstOf n new)
+  of-accepted (refused number) s n fit read e size =
+      absurd (true≢false (ap isAccepted (sym (ap answerOf e) ∙ read .answer)))
+  of-accepted (block s′ b) s n fit read e size =
+      let same : s ≡ s′ = ap (settingsIn s) (sym (ap answerOf e) ∙ read .answer) in
+      let N : n ≡ 2 ^ s′ .m = size ∙ ap (λ (x : Settings). 2 ^ x .m) same in
+      let mask : take n (new .mask) ≡ b .mask =
+      ap (λ (x : Block). take n (x .mask)) (read .after-is)
+      ∙ take-at (b .mask) (drop (length (b .mask)) (old .mask)) n (fit .long .mask-long ∙ sym N) in
+      let llr : take n (new .llr) ≡ b .llr =
+      ap (λ (x : Block). take n (x .llr)) (read .after-is)
+      ∙ take-at (b .llr) (drop (length (b .llr)) (old .llr)) n (fit .long .llr-long ∙ sym N) in
+      rw (same, mask, llr) (record { fit = fit; is = refl })
+    where
+      settingsIn : Settings → ReadAnswer → Settings
+      settingsIn d (accepted x) = x
+      settingsIn d (rejected number) = d
+
+  of-refused : (means : Meaning) (refusal : Refusal) → InputRead means old new r → r ≡ Refused refusal
+      → means ≡ refused (refusalNumber refusal)
+  of-refused (refused number) refusal read e =
+      ap (λ (v : ReadAnswer). refused (numberIn v)) (sym (read .answer) ∙ ap answerOf e)
+    where
+      numberIn : ReadAnswer → ℕ
+      numberIn (accepted x) = 0
+      numberIn (rejected n) = n
+  of-refused (block s b) refusal read e =
+      absurd (true≢false (ap isAccepted (sym (read .answer) ∙ ap answerOf e)))
+
+  pub accepted-text : (t : List ℕ) {s : Settings} {n : ℕ} → InputRead (meaning t) old new r → r ≡ Accepted s
+      → n ≡ 2 ^ s .m → AcceptedText (meaning t) s (firstOf n new)
+  accepted-text t {s} {n} read e size = of-accepted (meaning t) s n (meaning-fit t) read e size
+
+  pub refused-text : (t : List ℕ) {refusal : Refusal} → InputRead (meaning t) old new r → r ≡ Refused refusal
+      → meaning t ≡ refused (refusalNumber refusal)
+  refused-text t {refusal} read e = of-refused (meaning t) refusal read e

@@ -1,0 +1,247 @@
+// The report's input: a text of bytes becomes settings, mask and LLRs.
+// It sees `scan`, `settings` and the block length of `polar`. It promises the meaning that document 01 gives the text,
+// for every byte string, and that a refused text writes nothing.
+ghost use mathlib.Core.Path.{_≡_};
+ghost use Prim.Native.Nat.{_≤_, _<_, _^_};
+ghost use lib.ListN.{length, drop, take};
+ghost use Rattle.calls.specs.Numbers.{numberOf, between};
+ghost use Rattle.scan.specs.Answers.{readTo};
+ghost use Rattle.scan.specs.Reading.{found};
+ghost use Rattle.report_input.specs.Input.{valueAt, unsigned, maskValue, llrValue, settingsOf, head, blockOf};
+ghost use Rattle.report_input.specs.Input.{positionLine, positionLines, tested, sized, meaning, InputRead};
+ghost use Rattle.report_input.specs.Private.{headRead, positionRead, firstOf, numberIn};
+use calls::Answer;
+use calls::Refusal;
+use scan::Next;
+use settings::Room;
+use settings::Settings;
+
+// The most bytes of an accepted text.
+pub const LONGEST_TEXT: usize = 32768;
+
+// What a value below zero counts as: it lies outside every range as well.
+const OUTSIDE_RANGES: u32 = 1000000;
+
+// The positions of the largest block, and the elements of its workspace.
+pub const MOST_POSITIONS: usize = 1024;
+
+pub const MOST_WORKSPACE: usize = 22528;
+
+// The settings of an accepted text, whose mask and LLRs stand in the lent slices.
+pub enum Input {
+    Accepted(Settings),
+    Refused(Refusal),
+}
+
+// The first three lines: the settings, and the position behind them.
+pub enum Head {
+    Found { settings: Settings, next: usize },
+    Malformed,
+}
+
+// The line of a position: its mask value and LLR, and the position in the text behind it.
+pub enum Position {
+    Found { frozen: u8, llr: i16, next: usize },
+    Malformed,
+}
+
+// A value that can't be below zero.
+fn unsigned(value: i32) -> u32
+    ensures { λ r. ⌜ r ≡ unsigned value ⌝ }
+{
+    if value < 0 {
+        OUTSIDE_RANGES
+    } else {
+        value as u32
+    }
+}
+
+// A mask value; 256 is no 0.
+fn mask_value(value: i32) -> u8
+    ensures { λ r. ⌜ r ≡ maskValue value ⌝ }
+{
+    let n = unsigned(value);
+    if n < 255 { n as u8 } else { 255 }
+}
+
+// An LLR; 65,539 is no 3.
+fn llr_value(value: i32) -> i16
+    ensures { λ r. ⌜ r ≡ llrValue value ⌝ }
+{
+    if value < -32767 {
+        -32767
+    } else if 32767 < value {
+        32767
+    } else {
+        value as i16
+    }
+}
+
+// The value at a place of the settings' line.
+fn setting(values: &[i32; 6], place: usize) -> u32
+    requires { ⌜ place < 6 ⌝ }
+    ensures { λ r. ⌜ r ≡ unsigned (valueAt (now (values .entry)) place) ⌝ }
+{
+    unsigned(values[place])
+}
+
+// The settings in the order of their names.
+fn settings_of(values: &[i32; 6]) -> Settings
+    ensures { λ r. ⌜ r ≡ settingsOf (now (values .entry)) ⌝ }
+{
+    Settings {
+        m: setting(values, 0),
+        ceiling: setting(values, 1),
+        scale: setting(values, 2),
+        limit: setting(values, 3),
+        criterion: setting(values, 4),
+        operand: setting(values, 5),
+    }
+}
+
+// A later setting joins the end of the first name line, and takes its default here where the line ends before its name.
+fn read_head(text: &[u8]) -> Head
+    ensures { λ r. ⌜ head (now (text .entry)) ≡ headRead (now (text .entry)) r ⌝ }
+{
+    let names = scan::literal(text, 0, b"m ceiling scale limit criterion operand\n");
+    let Next::At(second) = names else {
+        return Head::Malformed;
+    };
+    let mut values = [0i32; 6];
+    let line = scan::line(text, second, 6, &mut values);
+    let Next::At(third) = line else {
+        return Head::Malformed;
+    };
+    let names = scan::literal(text, third, b"position frozen llr\n");
+    let Next::At(next) = names else {
+        return Head::Malformed;
+    };
+    Head::Found {
+        settings: settings_of(&values),
+        next,
+    }
+}
+
+// The line of a position.
+fn position_line(text: &[u8], at: usize, position: usize) -> Position
+    ensures { λ r. ⌜ positionLine position (drop at (now (text .entry))) ≡ positionRead (now (text .entry)) r ⌝ }
+{
+    let mut values = [0i32; 3];
+    let line = scan::line(text, at, 3, &mut values);
+    let Next::At(next) = line else {
+        return Position::Malformed;
+    };
+    if unsigned(values[0]) as usize == position {
+        Position::Found {
+            frozen: mask_value(values[1]),
+            llr: llr_value(values[2]),
+            next,
+        }
+    } else {
+        Position::Malformed
+    }
+}
+
+// The lines of n positions.
+fn position_lines(text: &[u8], at: usize, n: usize, mask: &mut [u8], llr: &mut [i16]) -> Next
+    requires { ⌜ (n ≤ length (now mask)) × (n ≤ length (now llr)) ⌝ }
+    ensures { λ r. ⌜ positionLines n 0 (drop at (now (text .entry)))
+        ≡ readTo (now (text .entry)) (firstOf n (blockOf (now (mask .exit)) (now (llr .exit)))) r ⌝ }
+    ensures { λ _. ⌜ drop n (now (mask .exit)) ≡ drop n (now (mask .entry)) ⌝ }
+    ensures { λ _. ⌜ drop n (now (llr .exit)) ≡ drop n (now (llr .entry)) ⌝ }
+{
+    let mut i = 0;
+    let mut next = at;
+    while i < n {
+        let position = position_line(text, next, i);
+        let Position::Found {
+            frozen: frozen,
+            llr: value,
+            next: behind,
+        } = position
+        else {
+            return Next::Malformed;
+        };
+        mask[i] = frozen;
+        llr[i] = value;
+        next = behind;
+        i += 1;
+    }
+    Next::At(next)
+}
+
+// What refuses the lines of the positions, where the settings' m is in its range. They are read into memory of its own,
+// so that nothing is written yet.
+fn refusal(text: &[u8], at: usize, settings: Settings) -> Answer
+    requires { ⌜ (1 ≤ settings .m) × (settings .m ≤ 10) ⌝ }
+    ensures { λ r. ⌜ numberOf r
+        ≡ numberIn (tested settings (positionLines (2 ^ settings .m) 0 (drop at (now (text .entry))))) ⌝ }
+{
+    let m = settings.m;
+    let n = polar::power_of_two(m);
+    let mut mask = [0u8; MOST_POSITIONS];
+    let mut llr = [0i16; MOST_POSITIONS];
+    let read = position_lines(text, at, n, &mut mask, &mut llr);
+    let Next::At(end) = read else {
+        return Answer::Refused(Refusal::MalformedText);
+    };
+    if end < text.len() {
+        return Answer::Refused(Refusal::MalformedText);
+    }
+    let room = Room {
+        soft: MOST_POSITIONS,
+        mark: MOST_POSITIONS,
+        coded_soft: MOST_POSITIONS,
+        coded_mark: MOST_POSITIONS,
+        work: MOST_WORKSPACE,
+    };
+    settings::refusal(settings, &mask[..n], &llr[..n], room)
+}
+
+// 1: m from 1 to 10.
+fn is_block_length(m: u32) -> bool
+    ensures { λ r. ⌜ r ≡ between 1 10 m ⌝ }
+{
+    (1 <= m) & (m <= 10)
+}
+
+// The lines of the positions behind the first three lines. Every test comes before the first write.
+fn read_block(
+    text: &[u8],
+    at: usize,
+    settings: Settings,
+    mask: &mut [u8; MOST_POSITIONS],
+    llr: &mut [i16; MOST_POSITIONS],
+) -> Input
+    ensures { λ r. ⌜ InputRead (sized (found settings (drop at (now (text .entry)))))
+        (blockOf (now (mask .entry)) (now (llr .entry))) (blockOf (now (mask .exit)) (now (llr .exit))) r ⌝ }
+{
+    let m = settings.m;
+    if !is_block_length(m) {
+        return Input::Refused(Refusal::BlockLength);
+    }
+    match refusal(text, at, settings) {
+        Answer::Refused(refusal) => Input::Refused(refusal),
+        Answer::Done => {
+            position_lines(text, at, polar::power_of_two(m), mask, llr);
+            Input::Accepted(settings)
+        }
+    }
+}
+
+// Settings, mask and LLRs of a text.
+pub fn read(text: &[u8], mask: &mut [u8; MOST_POSITIONS], llr: &mut [i16; MOST_POSITIONS]) -> Input
+    ensures { λ r. ⌜ InputRead (meaning (now (text .entry)))
+        (blockOf (now (mask .entry)) (now (llr .entry))) (blockOf (now (mask .exit)) (now (llr .exit))) r ⌝ }
+{
+    if LONGEST_TEXT < text.len() {
+        return Input::Refused(Refusal::MalformedText);
+    }
+    match read_head(text) {
+        Head::Malformed => Input::Refused(Refusal::MalformedText),
+        Head::Found {
+            settings: settings,
+            next: next,
+        } => read_block(text, next, settings, mask, llr),
+    }
+}

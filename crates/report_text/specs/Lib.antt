@@ -1,0 +1,4 @@
+pub mod Report
+pub mod Private
+pub mod ReportLaws
+pub mod Cases

@@ -1,0 +1,64 @@
+-- Document 01, "The report's text": the output, and the report as a whole, from the bytes of a text to bytes.
+-- Definitions only.
+use Prim.Native.Nat.{ℕ, zero, suc, _^_}
+use mathlib.Core.List.{List, [], _∷_, _++_}
+use lib.IntN.{ℤ, pos}
+use lib.ListN.{replicate}
+use Rattle.settings.specs.declared.Settings.{Settings}
+use Rattle.decoder.specs.Decoder.{Ending, ending, final, softAt, markAt, codedSoftAt, codedMarkAt}
+use Rattle.calls.specs.Texts.{bytes}
+use Rattle.format.specs.Decimal.{line}
+use Rattle.report_input.specs.Input.{mostWorkspace, Block, Meaning, refused, block, meaning}
+
+-- the room that is enough for every output
+abbrev pub reportRoom : ℕ
+reportRoom = 32768
+
+-- ---- a refusal: `refused`, then the number on its own line
+
+unfoldable pub refusalText : ℕ → List ℕ
+refusalText number = bytes "refused\n" ++ line (pos number ∷ [])
+
+-- ---- an outcome
+
+-- a line for each of n positions from p on
+unfoldable pub positionLines : (ℕ → List ℤ) → ℕ → ℕ → List ℕ
+positionLines values zero p = []
+positionLines values (suc n) p = line (values p) ++ positionLines values n (suc p)
+
+-- of a position its number, soft output, mark, coded soft output and coded mark
+abbrev pub positionValues : ℕ → ℤ → ℕ → ℤ → ℕ → List ℤ
+positionValues p soft mark codedSoft codedMark = pos p ∷ soft ∷ pos mark ∷ codedSoft ∷ pos codedMark ∷ []
+
+abbrev pub outputs : (ℕ → ℤ) → (ℕ → ℕ) → (ℕ → ℤ) → (ℕ → ℕ) → ℕ → List ℤ
+outputs soft mark codedSoft codedMark p = positionValues p (soft p) (mark p) (codedSoft p) (codedMark p)
+
+-- names, the iteration and the reason, names, and the N positions in order
+unfoldable pub outcomeText : Ending → ℕ → (ℕ → List ℤ) → List ℕ
+outcomeText e N values =
+    bytes "iterations reason\n"
+    ++ line (pos (e .iteration) ∷ pos (e .reason) ∷ [])
+    ++ bytes "position soft mark coded codedmark\n"
+    ++ positionLines values N 0
+
+-- the outputs of a workspace
+abbrev pub outputsOf : Settings → List ℤ → ℕ → List ℤ
+outputsOf s w = outputs (softAt s w) (markAt s w) (codedSoftAt s w) (codedMarkAt s w)
+
+-- the outcome of a block in a workspace that held `work`
+abbrev pub blockText : Settings → Block → List ℤ → List ℕ
+blockText s b work =
+    outcomeText (ending s (b .mask) (b .llr) work) (2 ^ s .m) (outputsOf s (final s (b .mask) (b .llr) work))
+
+-- ---- the report
+
+-- the workspace that it lends the decoder: room for the largest block, all zeros
+abbrev pub workspace : List ℤ
+workspace = replicate mostWorkspace (pos 0)
+
+abbrev pub textOf : Meaning → List ℕ
+textOf (refused number) = refusalText number
+textOf (block s b) = blockText s b workspace
+
+unfoldable pub report : List ℕ → List ℕ
+report text = textOf (meaning text)
