@@ -25,6 +25,9 @@ held z h = toZ-ofZ (size-fits z h)
 pub told : {z v : ℤ} → mag z < 2 ^ 15 → z ≡ v → toZ w16 (ofZ w16 z) ≡ v
 told {z} h e = toZ-ofZ {w = w16} (record { sfits = h }) ∙ e
 
+pub kept : (z : ℤ) → mag z < 2 ^ 15 → toZ w16 (ofZ w16 z) ≡ z
+kept z h = told h refl
+
 -- ---- negations
 
 pub minus-fits : (z : ℤ) → natAbs z < 2 ^ 15 → SFits w16 (pos 0 -ℤ z)

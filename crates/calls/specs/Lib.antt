@@ -10,5 +10,4 @@ pub mod BitLaws
 pub mod Every
 pub mod EveryLaws
 pub mod Bounds
-pub mod SignTestLaws
 pub mod Texts

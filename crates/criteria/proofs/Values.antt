@@ -1,20 +1,16 @@
 -- Signed values as the machine sees them, where a local x stands as toZ w16 (ofZ w16 x): what fits, the tests of a sign, and the marks.
-use Prim.Native.Nat.{zero, suc, _<_, _≤_, _^_}
+use Prim.Native.Nat.{zero, suc, _<_, _≤_}
 use mathlib.Core.Path.{_≡_, refl, sym}
 use mathlib.Core.Bool.{true, false, true≢false}
 use native.Mathlib.Omega.{arith}
 use borrow.Author.Tests.{ltb-true, ltb-false}
 use lib.IntN.{ℤ, pos, negsuc, natAbs}
-use lib.Signed.{mag, ltZ}
+use lib.Signed.{ltZ}
 use mir.Syntax.{w16}
-use mir.Val.{hbits, toZ, ofZ}
-use mir.Facts.{toZ-ofZ}
+use mir.Val.{toZ, ofZ}
 use Rattle.calls.specs.Bounds.{largestCeiling}
 use Rattle.calls.proofs.Signed.{held}
 use Rattle.criteria.specs.Marks.{markOf}
-
-pub kept : (z : ℤ) → mag z < 2 ^ hbits w16 → toZ w16 (ofZ w16 z) ≡ z
-kept z h = toZ-ofZ (record { sfits = h })
 
 pub small-kept : (z : ℤ) → natAbs z ≤ largestCeiling → toZ w16 (ofZ w16 z) ≡ z
 small-kept z h = held z (omega arith)

@@ -9,7 +9,7 @@ use lib.ListN.{length, getD, drop}
 use Rattle.calls.specs.Numbers.{between, refusalNumber}
 use Rattle.calls.specs.Signs.{isNegative, flipped}
 use Rattle.settings.specs.declared.Settings.{Settings}
-use Rattle.settings.specs.declared.Room.{Room}
+use Rattle.settings.specs.declared.Lengths.{Lengths}
 use Rattle.settings.specs.Settings.{decodeNumber}
 use Rattle.scan.specs.Reading.{Reading, found, malformed, bind}
 use Rattle.scan.specs.Lines.{line, literal}
@@ -115,7 +115,7 @@ pub data Meaning : Type 0 where
   block : Settings → Block → Meaning
 
 -- room for a block of any length, so that 7 can't be
-abbrev pub largestLengths : Room
+abbrev pub largestLengths : Lengths
 largestLengths =
     record {
       soft = mostPositions;

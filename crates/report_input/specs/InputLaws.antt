@@ -11,7 +11,7 @@ use borrow.Author.Tests.{le-leb, lt-leb}
 use lib.ListN.{length, drop, take, set, drop-of-length-le, take-append-drop}
 use lib.Seq.{take-suc-set, getD-take, drop-cons}
 use Rattle.calls.specs.declared.Refusal.{Refusal}
-use Rattle.calls.specs.Numbers.{between, refusalNumber, andThen}
+use Rattle.calls.specs.Numbers.{between, refusalNumber, firstRefusal}
 use Rattle.calls.specs.NumberLaws.{refused-first}
 use Rattle.settings.specs.declared.Settings.{Settings}
 use Rattle.scan.specs.Reading.{Reading, found, malformed, bind}
@@ -223,7 +223,7 @@ lines-number s R b end t e h = rw (e, drop-of-length-le t h) (sym (number-in (bl
 
 number-positive : (r : Refusal) → 0 ≡ refusalNumber r → ⊥
 number-positive r e =
-    let one : 1 ≡ refusalNumber r = ap (λ (n : ℕ). andThen n 1) e ∙ refused-first r 1 in omega arith
+    let one : 1 ≡ refusalNumber r = ap (λ (n : ℕ). firstRefusal n 1) e ∙ refused-first r 1 in omega arith
 
 pub refused-block : (r : Refusal) (means : Meaning) → refusalNumber r ≡ numberIn means
     → means ≡ refused (refusalNumber r)

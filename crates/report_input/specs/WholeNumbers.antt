@@ -11,11 +11,12 @@ use lib.Pow.{pow-mono}
 use lib.IntN.{ℤ, pos, negsuc, natAbs}
 use lib.ListN.{length, getD, length-map, List·getD-map}
 use borrow.Author.Tests.{leb-true, leb-false, le-leb, lt-leb}
-use Rattle.calls.specs.Numbers.{check, andThen, between}
+use Rattle.calls.specs.Numbers.{check, firstRefusal, between}
 use Rattle.calls.specs.NumberLaws.{between-passed}
 use Rattle.calls.specs.Signs.{isNegative}
 use Rattle.calls.specs.SignLaws.{size-flipped}
-use Rattle.polar.specs.Code.{areBits, informationCount, byKind}
+use Rattle.polar.specs.Mask.{maskAccepted, byKind}
+use Rattle.polar.specs.Code.{informationCount}
 use Rattle.settings.specs.Settings.{operandFits, slicesFit, withinCeiling, decodeNumber}
 use Rattle.report_input.specs.Input.{
   outsideRanges,
@@ -100,10 +101,10 @@ mask-bit (pos (suc (suc n))) =
     ∙ sym (rw (lt-leb (suc (suc n)) 1 (omega arith)) (and-false (leb 0 (suc (suc n)))))
 mask-bit (negsuc n) = refl
 
-mask-zero : (z : ℤ) → byKind (maskValue z) true false ≡ inRange 0 0 z
+mask-zero : (z : ℤ) → byKind (maskValue z) true (λ bit. false) ≡ inRange 0 0 z
 mask-zero (pos zero) = refl
 mask-zero (pos (suc n)) =
-    ap (λ (k : ℕ). byKind k true false) least ∙ sym (rw (lt-leb (suc n) 0 (omega arith)) (and-false (leb 0 (suc n))))
+    ap (λ (k : ℕ). byKind k true (λ bit. false)) least ∙ sym (rw (lt-leb (suc n) 0 (omega arith)) (and-false (leb 0 (suc n))))
   where
     least : min (suc n) 255 ≡ suc (min n 254)
     least = omega arith
@@ -124,7 +125,7 @@ llr-size C z h = ap (λ (n : ℕ). leb n C) (size-flipped (isNegative z) (pos (m
 
 -- ---- the first n values
 
-mask-bits : (n : ℕ) (mask : List ℤ) → areBits n (map maskValue mask) ≡ allOf n (inRange 0 1) mask
+mask-bits : (n : ℕ) (mask : List ℤ) → maskAccepted n (map maskValue mask) ≡ allOf n (inRange 0 1) mask
 mask-bits zero mask = refl
 mask-bits (suc n) mask =
     ap₂ _&&_ (mask-bits n mask)
@@ -136,7 +137,7 @@ mask-some (suc n) mask =
     rw (List·getD-map maskValue mask n (pos 0), ← mask-some n mask, ← mask-zero (getD mask n (pos 0)))
     (one-more (informationCount (map maskValue mask) n) (maskValue (getD mask n (pos 0))))
   where
-    one-more : (count kind : ℕ) → leb 1 (count + byKind kind 1 0) ≡ (leb 1 count || byKind kind true false)
+    one-more : (count kind : ℕ) → leb 1 (count + byKind kind 1 (λ bit. 0)) ≡ (leb 1 count || byKind kind true (λ bit. false))
     one-more zero zero = refl
     one-more zero (suc k) = refl
     one-more (suc c) zero = le-leb 1 (suc c + 1) (omega arith) ∙ sym (rw (le-leb 1 (suc c) (omega arith)))
@@ -163,8 +164,8 @@ room-fits m n k h e f =
       le-leb (2 * (m + 1) * 2 ^ m) mostWorkspace work,
     )
 
-next-test : (t t′ : Bool) (number x y z : ℕ) → t ≡ t′ → (t′ ≡ true → andThen x y ≡ z)
-    → andThen (check t (suc number) x) y ≡ check t′ (suc number) z
+next-test : (t t′ : Bool) (number x y z : ℕ) → t ≡ t′ → (t′ ≡ true → firstRefusal x y ≡ z)
+    → firstRefusal (check t (suc number) x) y ≡ check t′ (suc number) z
 next-test true true number x y z e same = same refl
 next-test true false number x y z e same = absurd (true≢false e)
 next-test false true number x y z e same = absurd (true≢false (sym e))

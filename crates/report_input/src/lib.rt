@@ -13,7 +13,7 @@ ghost use Rattle.report_input.specs.Private.{headRead, positionRead, fir
 use calls::Answer;
 use calls::Refusal;
 use scan::Next;
-use settings::Room;
+use settings::Lengths;
 use settings::Settings;
 
 // The most bytes of an accepted text.
@@ -188,14 +188,14 @@ fn refusal(text: &[u8], at: usize, settings: Settings) -> Answer
     if end < text.len() {
         return Answer::Refused(Refusal::MalformedText);
     }
-    let room = Room {
+    let lengths = Lengths {
         soft: MOST_POSITIONS,
         mark: MOST_POSITIONS,
         coded_soft: MOST_POSITIONS,
         coded_mark: MOST_POSITIONS,
         work: MOST_WORKSPACE,
     };
-    settings::refusal(settings, &mask[..n], &llr[..n], room)
+    settings::refusal(settings, &mask[..n], &llr[..n], lengths)
 }
 
 // 1: m from 1 to 10.

@@ -11,7 +11,7 @@ use Rattle.polar.specs.Mask.{byKind}
 use Rattle.criteria.specs.Marks.{markOf}
 use Rattle.criteria.specs.Criteria.{sameMarks}
 use Rattle.calls.specs.EveryLaws.{every-next}
-use Rattle.criteria.proofs.Values.{kept}
+use Rattle.calls.proofs.Signed.{kept}
 use Rattle.criteria.proofs.same_marks.Statement.{statement}
 use Rattle.criteria.proofs.same_marks.Tie as tie
 

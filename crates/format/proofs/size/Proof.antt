@@ -3,7 +3,7 @@ use mathlib.Core.Path.{ap, _∙_}
 use lib.IntN.{natAbs}
 use mir.Facts.{toZ-ofZ}
 use Rattle.calls.specs.SignLaws.{size-neg}
-use Rattle.calls.specs.SignTestLaws.{below-negated, not-below}
+use Rattle.calls.proofs.Signed.{below-negated, not-below}
 use Rattle.format.proofs.Values.{size-fits, fits-wide, negated-fits-wide, wide, negated-wide}
 use Rattle.format.proofs.size.Statement.{statement}
 use Rattle.format.proofs.size.Tie as tie

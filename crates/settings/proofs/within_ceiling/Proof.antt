@@ -9,7 +9,8 @@ use mir.Syntax.{w16}
 use mir.Val.{toZ}
 use mir.Facts.{toZ-pos}
 use Rattle.settings.specs.Settings.{withinCeiling}
-use Rattle.settings.proofs.Values.{kept, minus-fits, minus-kept, lies-within, within-next}
+use Rattle.calls.proofs.Signed.{kept, minus-fits, minus-held}
+use Rattle.settings.proofs.Values.{lies-within, within-next}
 use Rattle.settings.proofs.within_ceiling.Statement.{statement}
 use Rattle.settings.proofs.within_ceiling.Tie as tie
 
@@ -26,7 +27,7 @@ cast-high : tie.Need-cast-high Inv-loop μ-loop
 cast-high c = record { sfits = omega arith }
 
 sub-low : tie.Need-sub-low Inv-loop μ-loop
-sub-low c = rw (ceiling-known c) (minus-fits (c .args .ceiling) (c .pre .1))
+sub-low c = rw (ceiling-known c) (minus-fits (pos (c .args .ceiling)) (omega arith))
 
 loop-holds : tie.Need-loop-holds Inv-loop μ-loop
 loop-holds c = (zero-le, refl)
@@ -56,7 +57,7 @@ loop-again c =
     let s = at .before in
     let C = s .args .ceiling in
     let z = getD (s .args .llr .now) (at .loop .i) (pos 0) in
-    let told = simp (ceiling-known s, minus-kept C (s .pre .1), kept z (arg .lies-within-arg .given)) at (c .before .lies-within .ensures) in
+    let told = simp (ceiling-known s, minus-held (pos C) (omega arith), kept z (arg .lies-within-arg .given)) at (c .before .lies-within .ensures) in
     (omega arith, c .both .ensures ∙ within-next (at .loop .i) C (s .args .llr .now) (at .loop .inv .1) (told ∙ lies-within C z))
 
 returns : tie.Need-returns Inv-loop μ-loop
