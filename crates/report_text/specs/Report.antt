@@ -41,14 +41,14 @@ outcomeText e N values =
     ++ bytes "position soft mark coded codedmark\n"
     ++ positionLines values N 0
 
--- the outputs of a workspace
-abbrev pub outputsOf : Settings → List ℤ → ℕ → List ℤ
-outputsOf s w = outputs (softAt s w) (markAt s w) (codedSoftAt s w) (codedMarkAt s w)
+-- the outputs of a workspace under a mask
+abbrev pub outputsAt : Settings → List ℕ → List ℤ → ℕ → List ℤ
+outputsAt s mask w = outputs (softAt s mask w) (markAt s mask w) (codedSoftAt s w) (codedMarkAt s w)
 
 -- the outcome of a block in a workspace that held `work`
 abbrev pub blockText : Settings → Block → List ℤ → List ℕ
 blockText s b work =
-    outcomeText (ending s (b .mask) (b .llr) work) (2 ^ s .m) (outputsOf s (final s (b .mask) (b .llr) work))
+    outcomeText (ending s (b .mask) (b .llr) work) (2 ^ s .m) (outputsAt s (b .mask) (final s (b .mask) (b .llr) work))
 
 -- ---- the report
 

@@ -10,13 +10,12 @@ use lib.IntN.{ℤ, pos}
 use lib.ListN.{length, getD, length-append}
 use lib.Pow.{pow-mono}
 use Rattle.calls.specs.declared.Refusal.{Refusal}
-use Rattle.calls.specs.Memory.{overwrite, unlessRefused}
-use Rattle.calls.specs.MemoryLaws.{overwrite-at}
+use Rattle.calls.specs.Bounds.{largestM, largestCeiling}
 use Rattle.message.specs.MessageLaws.{add-size}
 use Rattle.criteria.specs.CriteriaLaws.{mark-le}
 use Rattle.sweeps.specs.Workspace.{L, R}
 use Rattle.settings.specs.declared.Settings.{Settings}
-use Rattle.settings.specs.Settings.{decodeNumber}
+use Rattle.settings.specs.Settings.{largestLimit, decodeNumber}
 use Rattle.settings.specs.SettingsLaws.{accepted}
 use Rattle.decoder.specs.declared.Reason.{Reason}
 use Rattle.decoder.specs.declared.Reason.the-variants.{Criterion, Limit}
@@ -30,23 +29,30 @@ use Rattle.decoder.specs.Decoder.{
   ruleOf,
   softAt,
   codedSoftAt,
-  markAt,
-  codedMarkAt,
   Ending,
   ending,
   final,
   resultOf,
-  byNumber,
-  roomOf,
+  resultBy,
+  callNumber,
   Decoded,
 }
-use Rattle.decoder.specs.ResultLaws.{DecoderAnswer, decoder-answer}
+use Rattle.decoder.specs.OutputLaws.{soft-size}
+use Rattle.decoder.specs.ResultLaws.{
+  DecoderAnswer,
+  decoder-answer,
+  soft-written,
+  mark-written,
+  codedSoft-written,
+  codedMark-written,
+}
+use Rattle.settings.specs.Slices.{Slices, lengthsOf}
 use Rattle.calls.specs.Texts.{bytes}
 use Rattle.format.specs.Decimal.{line}
 use Rattle.format.specs.DecimalLaws.{line-length}
 use Rattle.report_input.specs.Input.{mostPositions, mostWorkspace, Block, largestLengths}
 use Rattle.report_input.specs.InputLaws.{Fit}
-use Rattle.report_text.specs.Report.{positionLines, outputsOf, outcomeText, blockText}
+use Rattle.report_text.specs.Report.{positionLines, outputsAt, outcomeText, blockText}
 use Rattle.report_text.specs.Private.{sliceValues, endingOf, headingText}
 
 -- ---- the lines of the positions, one by one
@@ -90,13 +96,13 @@ position-lines-room values (suc n) p short =
       length-append (line (values p)) (positionLines values n (suc p)),
     )
 
-pub outputs-short : (s : Settings) (w : List ℤ) (i : ℕ) → s .ceiling ≤ 2047 → i < mostPositions
-    → length (line (outputsOf s w i)) ≤ 30
-outputs-short s w i C h =
-    line-length (outputsOf s w i) (omega (
+pub outputs-short : (s : Settings) (mask : List ℕ) (w : List ℤ) (i : ℕ) → s .ceiling ≤ largestCeiling → i < mostPositions
+    → length (line (outputsAt s mask w i)) ≤ 30
+outputs-short s mask w i C h =
+    line-length (outputsAt s mask w i) (omega (
       arith,
-      add-size (ruleOf s) (L (s .m) w 0 i) (R (s .m) w 0 i),
-      mark-le (softAt s w i),
+      soft-size (ruleOf s) (getD mask i 0) (L (s .m) w 0 i) (R (s .m) w 0 i),
+      mark-le (softAt s mask w i),
       add-size (ruleOf s) (L (s .m) w (s .m) i) (R (s .m) w (s .m) i),
       mark-le (codedSoftAt s w i),
     ))
@@ -112,8 +118,8 @@ heading-room e h k =
 
 -- ---- what the decoder leaves for an accepted block
 
-pub fit-length : {s : Settings} {block : Block} → Fit s block → s .m ≤ 10
-fit-length {s} {block} fit = accepted s (block .mask) (block .llr) largestLengths (fit .number) .m-le
+pub fit-length : {s : Settings} {block : Block} → Fit s block → s .m ≤ largestM
+fit-length {s} {block} fit = accepted s (block .mask) (block .llr) largestLengths (fit .number) .settings .m-le
 
 -- how the decoder ends, and its workspace then
 abbrev endingOn : Settings → Block → List ℤ → Ending
@@ -122,61 +128,40 @@ endingOn s block work = ending s (block .mask) (block .llr) work
 abbrev finalOn : Settings → Block → List ℤ → List ℤ
 finalOn s block work = final s (block .mask) (block .llr) work
 
-pub record DecodedBlock
-    (s : Settings) (block : Block) (work soft : List ℤ) (mark : List ℕ) (codedSoft : List ℤ) (codedMark : List ℕ)
-    (r : Outcome) : Type 0 where
+pub record DecodedBlock (s : Settings) (block : Block) (work : List ℤ) (after : Slices) (r : Outcome) : Type 0 where
   pub answer : resultOf r ≡ ended (endingOn s block work .iteration) (endingOn s block work .reason)
-  pub iteration-le : endingOn s block work .iteration ≤ 200
+  pub iteration-le : endingOn s block work .iteration ≤ largestLimit
   pub values : (i : ℕ) → i < 2 ^ s .m
-      → sliceValues soft mark codedSoft codedMark i ≡ outputsOf s (finalOn s block work) i
+      → sliceValues (after .soft) (after .mark) (after .codedSoft) (after .codedMark) i
+      ≡ outputsAt s (block .mask) (finalOn s block work) i
   pub size : 2 ^ s .m ≤ mostPositions
-  pub ceiling-le : s .ceiling ≤ 2047
+  pub ceiling-le : s .ceiling ≤ largestCeiling
 
-pub decoded-block : {s : Settings} {block : Block} {soft : List ℤ} {mark : List ℕ} {codedSoft : List ℤ}
-    {codedMark : List ℕ} {work soft′ : List ℤ} {mark′ : List ℕ} {codedSoft′ : List ℤ} {codedMark′ : List ℕ}
-    {work′ : List ℤ} {r : Outcome}
-    → Fit s block
-    → Decoded s (block .mask) (block .llr) soft mark codedSoft codedMark work soft′ mark′ codedSoft′ codedMark′ work′ r
-    → length soft ≡ mostPositions → length mark ≡ mostPositions
-    → length codedSoft ≡ mostPositions → length codedMark ≡ mostPositions
-    → length work ≡ mostWorkspace
-    → DecodedBlock s block work soft′ mark′ codedSoft′ codedMark′ r
-decoded-block {s} {block} {soft} {mark} {codedSoft} {codedMark} {work} fit d soft-long mark-long coded-soft-long
-    coded-mark-long work-long =
-    let number : decodeNumber s (block .mask) (block .llr) (roomOf soft mark codedSoft codedMark work) ≡ 0 =
-    rw (soft-long, mark-long, coded-soft-long, coded-mark-long, work-long) (fit .number) in
-    let ok = accepted s (block .mask) (block .llr) largestLengths (fit .number) in
-    let size : 2 ^ s .m ≤ 2 ^ 10 = pow-mono (ok .m-le) in
-    let N = 2 ^ s .m in
-    let w = finalOn s block work in
-    let e = endingOn s block work in
-    let ends = subst DecoderAnswer (ap (λ (n : ℕ). byNumber n e) (fit .number))
-    (decoder-answer s (block .mask) (block .llr) largestLengths work) in
+pub decoded-block : {s : Settings} {block : Block} (before : Slices) {after : Slices} {r : Outcome} → Fit s block
+    → Decoded s (block .mask) (block .llr) before after r → lengthsOf before ≡ largestLengths
+    → DecodedBlock s block (before .work) after r
+decoded-block {s} {block} before {after} fit d lengths =
+    let mask = block .mask in
+    let llr = block .llr in
+    let number : callNumber s mask llr before ≡ 0 = ap (decodeNumber s mask llr) lengths ∙ fit .number in
+    let ok = accepted s mask llr largestLengths (fit .number) in
+    let size : 2 ^ s .m ≤ 2 ^ largestM = pow-mono (ok .settings .m-le) in
+    let e = endingOn s block (before .work) in
+    let ends = subst DecoderAnswer (ap (λ (n : ℕ). resultBy n e) number) (decoder-answer s mask llr before) in
     record {
-      answer = d .answer ∙ ap (λ (n : ℕ). byNumber n e) number;
+      answer = d .answer ∙ ap (λ (n : ℕ). resultBy n e) number;
       iteration-le = ends .1;
       values = λ i h. rw (
-        ap (λ (l : List ℤ). getD l i (pos 0))
-            (d .soft-is ∙ ap (λ (n : ℕ). unlessRefused n (overwrite N (softAt s w) soft) soft) number)
-            ∙ overwrite-at N (softAt s w) soft i (pos 0) h (omega arith),
-        ap (λ (l : List ℕ). getD l i 0)
-            (d .mark-is ∙ ap (λ (n : ℕ). unlessRefused n (overwrite N (markAt s w) mark) mark) number)
-            ∙ overwrite-at N (markAt s w) mark i 0 h (omega arith),
-        ap (λ (l : List ℤ). getD l i (pos 0))
-            (d .coded-soft-is
-            ∙ ap (λ (n : ℕ). unlessRefused n (overwrite N (codedSoftAt s w) codedSoft) codedSoft) number)
-            ∙ overwrite-at N (codedSoftAt s w) codedSoft i (pos 0) h (omega arith),
-        ap (λ (l : List ℕ). getD l i 0)
-            (d .coded-mark-is
-            ∙ ap (λ (n : ℕ). unlessRefused n (overwrite N (codedMarkAt s w) codedMark) codedMark) number)
-            ∙ overwrite-at N (codedMarkAt s w) codedMark i 0 h (omega arith),
+        ap (λ (x : Slices). getD (x .soft) i (pos 0)) (d .slices) ∙ soft-written s mask llr before number i h,
+        ap (λ (x : Slices). getD (x .mark) i 0) (d .slices) ∙ mark-written s mask llr before number i h,
+        ap (λ (x : Slices). getD (x .codedSoft) i (pos 0)) (d .slices) ∙ codedSoft-written s mask llr before number i h,
+        ap (λ (x : Slices). getD (x .codedMark) i 0) (d .slices) ∙ codedMark-written s mask llr before number i h,
       );
       size = size;
-      ceiling-le = ok .ceiling-le;
+      ceiling-le = ok .settings .ceiling-le;
     }
 
-module _ {s : Settings} {block : Block} {work soft : List ℤ} {mark : List ℕ} {codedSoft : List ℤ} {codedMark : List ℕ}
-    {r : Outcome} (b : DecodedBlock s block work soft mark codedSoft codedMark r) where
+module _ {s : Settings} {block : Block} {work : List ℤ} {after : Slices} {r : Outcome} (b : DecodedBlock s block work after r) where
   -- it isn't refused
   pub not-refused : (refusal : Refusal) → r ≡ Refused refusal → ⊥
   not-refused refusal e = true≢false (ap isRefusal (sym (ap resultOf e) ∙ b .answer))
@@ -197,20 +182,20 @@ module _ {s : Settings} {block : Block} {work soft : List ℤ} {mark : List ℕ}
   iterations-short t reason e = omega (arith, b .iteration-le, ap (λ (e : Ending). e .iteration) (ending-is t reason e))
 
   -- its lines have room, and are those of the definition
-  abbrev held : ℕ → List ℤ
-  held = sliceValues soft mark codedSoft codedMark
+  abbrev shownValues : ℕ → List ℤ
+  shownValues = sliceValues (after .soft) (after .mark) (after .codedSoft) (after .codedMark)
 
-  pub block-room : (n : ℕ) → n ≡ 2 ^ s .m → length (positionLines held n 0) ≤ 30 * n
+  pub block-room : (n : ℕ) → n ≡ 2 ^ s .m → length (positionLines shownValues n 0) ≤ 30 * n
   block-room n e =
-      position-lines-room held n 0 (λ i l h.
+      position-lines-room shownValues n 0 (λ i l h.
       rw (b .values i (omega arith))
-      (outputs-short s (finalOn s block work) i (b .ceiling-le) (omega (arith, b .size))))
+      (outputs-short s (block .mask) (finalOn s block work) i (b .ceiling-le) (omega (arith, b .size))))
 
   pub block-text : (n t : ℕ) (reason : Reason) → n ≡ 2 ^ s .m → r ≡ Ended t reason
-      → outcomeText (endingOf t reason) n held ≡ blockText s block work
+      → outcomeText (endingOf t reason) n shownValues ≡ blockText s block work
   unfolding outcomeText
   block-text n t reason size e =
-      ap (λ (x : Ending). outcomeText x n held) (ending-is t reason e)
-      ∙ ap (λ (k : ℕ). outcomeText (endingOn s block work) k held) size
+      ap (λ (x : Ending). outcomeText x n shownValues) (ending-is t reason e)
+      ∙ ap (λ (k : ℕ). outcomeText (endingOn s block work) k shownValues) size
       ∙ ap (λ (l : List ℕ). headingText (endingOn s block work) ++ l)
-      (position-lines-same held (outputsOf s (finalOn s block work)) (2 ^ s .m) 0 (λ i l h. b .values i (omega arith)))
+      (position-lines-same shownValues (outputsAt s (block .mask) (finalOn s block work)) (2 ^ s .m) 0 (λ i l h. b .values i (omega arith)))

@@ -14,21 +14,8 @@ use Rattle.message.specs.Message.{add, f}
 use Rattle.sweeps.specs.Workspace.{setRow}
 use Rattle.sweeps.specs.Iteration.{leftStep, rightStep, start}
 use Rattle.settings.specs.declared.Settings.{Settings}
-use Rattle.settings.specs.declared.Room.{Room}
-use Rattle.decoder.specs.Decoder.{
-  Result,
-  refused,
-  ended,
-  after,
-  ending,
-  roomOf,
-  decodeResult,
-  decodeSoft,
-  decodeMark,
-  decodeCodedSoft,
-  decodeCodedMark,
-  decodeWork,
-}
+use Rattle.settings.specs.Slices.{Slices, slices}
+use Rattle.decoder.specs.Decoder.{Result, refused, ended, after, ending, decodeResult, decodeSlices}
 
 abbrev minus : ℕ → ℤ
 minus n = negℤ (pos n)
@@ -55,17 +42,11 @@ module _ {A : Type 0} where
   filled zero a = []
   filled (suc n) a = a ∷ filled n a
 
-abbrev oldSoft : Case → List ℤ
-oldSoft c = filled (2 ^ c .settings .m + 1) (pos 99)
-
-abbrev oldMark : Case → List ℕ
-oldMark c = filled (2 ^ c .settings .m + 1) 9
-
-abbrev oldWork : Case → List ℤ
-oldWork c = filled (2 * (c .settings .m + 1) * 2 ^ c .settings .m + 1) (pos 99)
-
-abbrev room : Case → Room
-room c = roomOf (oldSoft c) (oldMark c) (oldSoft c) (oldMark c) (oldWork c)
+abbrev lent : Case → Slices
+lent c =
+    let n = 2 ^ c .settings .m + 1 in
+    slices (filled n (pos 99)) (filled n 9) (filled n (pos 99)) (filled n 9)
+    (filled (2 * (c .settings .m + 1) * 2 ^ c .settings .m + 1) (pos 99))
 
 -- ---- what the contract says of a case
 
@@ -78,13 +59,13 @@ pub record Answer : Type 0 where
 
 abbrev answerOf : Case → Answer
 answerOf c =
-    let s = c .settings in
+    let left = decodeSlices (c .settings) (c .mask) (c .llr) (lent c) in
     record {
-      result = decodeResult s (c .mask) (c .llr) (room c) (oldWork c);
-      soft = decodeSoft s (c .mask) (c .llr) (room c) (oldWork c) (oldSoft c);
-      mark = decodeMark s (c .mask) (c .llr) (room c) (oldWork c) (oldMark c);
-      codedSoft = decodeCodedSoft s (c .mask) (c .llr) (room c) (oldWork c) (oldSoft c);
-      codedMark = decodeCodedMark s (c .mask) (c .llr) (room c) (oldWork c) (oldMark c);
+      result = decodeResult (c .settings) (c .mask) (c .llr) (lent c);
+      soft = left .soft;
+      mark = left .mark;
+      codedSoft = left .codedSoft;
+      codedMark = left .codedMark;
     }
 
 -- ---- what was worked by hand: iteration, reason, soft outputs, marks, coded soft outputs, coded marks. The element behind keeps its 99 or 9
@@ -206,7 +187,7 @@ worked = refl
 abbrev first : Case
 first = block 1 16 10 1 0 (1 ∷ 0 ∷ []) (pos 5 ∷ minus 3 ∷ [])
 
-pub first-workspace : decodeWork (first .settings) (first .mask) (first .llr) (room first) (oldWork first)
+pub first-workspace : decodeSlices (first .settings) (first .mask) (first .llr) (lent first) .work
     ≡ minus 3 ∷ pos 2 ∷ pos 5 ∷ minus 3 ∷ pos 31 ∷ pos 0 ∷ minus 3 ∷ pos 5 ∷ pos 99 ∷ []
 unfolding add f setRow leftStep rightStep start after ending
 first-workspace = refl

@@ -1,12 +1,13 @@
 -- `decoded` meets its contract.
-use mathlib.Core.Path.{subst}
+use mathlib.Core.Path.{_≡_, subst}
 use mathlib.Core.List.{List}
 use native.Mathlib.Omega.{arith}
 use Prim.Native.Nat.{ℕ}
 use lib.IntN.{pos}
-use lib.ListN.{length-replicate}
+use lib.ListN.{replicate, length-replicate}
 use Rattle.format.specs.Wrote.{Wrote}
-use Rattle.report_input.specs.Input.{mostPositions, Block, blockOf}
+use Rattle.settings.specs.Slices.{Slices, slices, lengthsOf}
+use Rattle.report_input.specs.Input.{mostPositions, largestLengths, Block, blockOf}
 use Rattle.report_text.specs.ReportLaws.{
   fit-length,
   DecodedBlock,
@@ -19,12 +20,6 @@ use Rattle.report_text.specs.ReportLaws.{
 use borrow.Author.Needs.{needs}
 use Rattle.report_text.proofs.decoded.Statement.{statement}
 use Rattle.report_text.proofs.decoded.Tie as tie
-use Rattle.report_text.proofs.decoded.Reads as reads
-use Rattle.report_text.proofs.decoded.Lts as lts
-use Rattle.decoder.proofs.decode.Reads as decode-reads
-use Rattle.report_text.proofs.outcome.Reads as outcome-reads
-use Rattle.report_text.proofs.refused.Reads as refused-reads
-use Rattle.polar.proofs.power_of_two.Reads as power-of-two-reads
 
 -- what the decoder left for the block that is handed over
 module _ (c : tie.After-decode) where
@@ -34,14 +29,26 @@ module _ (c : tie.After-decode) where
   abbrev given : Block
   given = blockOf (start .args .mask .now) (start .args .llr .now)
 
-  block :
-      let d = c .decode .last .1 .1 .1 in
-      DecodedBlock (start .args .settings) given (start .args .work .now) (d .0) (d .1 .0) (d .1 .1 .0) (d .1 .1 .1 .0)
-      (c .decode .result)
-  block =
-      decoded-block (start .pre .0) (c .decode .ensures) (length-replicate mostPositions (pos 0))
-      (length-replicate {A = ℕ} mostPositions 0) (length-replicate mostPositions (pos 0))
-      (length-replicate {A = ℕ} mostPositions 0) (start .pre .1 .0)
+  abbrev lent : Slices
+  lent =
+      slices (replicate mostPositions (pos 0)) (replicate mostPositions 0) (replicate mostPositions (pos 0)) (replicate mostPositions 0)
+      (start .args .work .now)
+
+  lengths : lengthsOf lent ≡ largestLengths
+  lengths i =
+      record {
+        soft = length-replicate mostPositions (pos 0) i;
+        mark = length-replicate {A = ℕ} mostPositions 0 i;
+        «coded_soft» = length-replicate mostPositions (pos 0) i;
+        «coded_mark» = length-replicate {A = ℕ} mostPositions 0 i;
+        work = start .pre .1 .0 i;
+      }
+
+  abbrev left : Slices
+  left = let d = c .decode .last .1 .1 .1 in slices (d .0) (d .1 .0) (d .1 .1 .0) (d .1 .1 .1 .0) (d .1 .1 .1 .1 .0)
+
+  block : DecodedBlock (start .args .settings) given (start .args .work .now) left (c .decode .result)
+  block = decoded-block lent (start .pre .0) (c .decode .ensures) lengths
 
 -- the call of the decoder, seen from behind the block's length
 abbrev decoding : tie.After-power-of-two → tie.After-decode
