@@ -1,8 +1,8 @@
 -- `result_out` meets its contract.
 use mathlib.Core.Path.{_∙_}
 use borrow.Author.Needs.{needs}
-use Rattle.capi.proofs.result_out.Statement.{statement}
-use Rattle.capi.proofs.result_out.Tie as tie
+use Rattle.vedrogne.proofs.result_out.Statement.{statement}
+use Rattle.vedrogne.proofs.result_out.Tie as tie
 
 enum-known-outcome : tie.Need-enum-known-outcome
 enum-known-outcome c = search needs

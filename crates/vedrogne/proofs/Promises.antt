@@ -10,8 +10,8 @@ use Rattle.decoder.specs.Decoder.{Result, resultOf, Decoded}
 use Rattle.tally.specs.declared.Tally.{Tally}
 use Rattle.tally.specs.declared.Tallied.{Tallied}
 use Rattle.tally.specs.Tally.{tallyNumber, TalliedDecode}
-use Rattle.capi.specs.Capi.{settingsIn, tallyIn, tallyOut, talliedNumber, resultNumber, iterationsOut, reasonOut, Lent, lent, DecodeCall, TalliedCall}
-use Rattle.capi.specs.CapiLaws.{tally-by-number}
+use Rattle.vedrogne.specs.Interface.{settingsIn, tallyIn, tallyOut, talliedNumber, resultNumber, iterationsOut, reasonOut, Lent, lent, DecodeCall, TalliedCall}
+use Rattle.vedrogne.specs.InterfaceLaws.{tally-by-number}
 
 -- what `result_out` promises of an answer
 abbrev pub ResultOut : Result → ℕ → ℕ → ℕ → ℕ → ℕ → Type 0

@@ -3,11 +3,11 @@ use native.Mathlib.Omega.{arith}
 use borrow.Author.Needs.{needs}
 use denote.Ref.{now}
 use Rattle.settings.specs.Slices.{slices}
-use Rattle.capi.specs.Capi.{Lent, lent}
-use Rattle.capi.specs.CapiLaws.{tallied-short, tallied-settings-short, tallied-long}
-use Rattle.capi.proofs.Promises.{tallied-refused, tallied-counted}
-use Rattle.capi.proofs.vedrogne_decode_tallied.Statement.{statement}
-use Rattle.capi.proofs.vedrogne_decode_tallied.Tie as tie
+use Rattle.vedrogne.specs.Interface.{Lent, lent}
+use Rattle.vedrogne.specs.InterfaceLaws.{tallied-short, tallied-settings-short, tallied-long}
+use Rattle.vedrogne.proofs.Promises.{tallied-refused, tallied-counted}
+use Rattle.vedrogne.proofs.vedrogne_decode_tallied.Statement.{statement}
+use Rattle.vedrogne.proofs.vedrogne_decode_tallied.Tie as tie
 
 -- what is lent
 abbrev given : tie.Start → Lent

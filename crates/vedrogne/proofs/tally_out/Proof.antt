@@ -2,9 +2,9 @@
 use native.Mathlib.Omega.{arith}
 use borrow.Author.Needs.{needs}
 use lib.ListN.{length-set}
-use Rattle.capi.specs.CapiLaws.{tally-stored}
-use Rattle.capi.proofs.tally_out.Statement.{statement}
-use Rattle.capi.proofs.tally_out.Tie as tie
+use Rattle.vedrogne.specs.InterfaceLaws.{tally-stored}
+use Rattle.vedrogne.proofs.tally_out.Statement.{statement}
+use Rattle.vedrogne.proofs.tally_out.Tie as tie
 
 slice-write-tally : tie.Need-slice-write-tally
 slice-write-tally c = search needs

@@ -10,7 +10,7 @@ use Rattle.calls.specs.Memory.{unlessRefused}
 use Rattle.decoder.specs.Decoder.{Ending, ending, Result, resultBy, callNumber}
 use Rattle.tally.specs.declared.Tally.{Tally}
 use Rattle.tally.specs.Tally.{tallyNumber, counted, answerBy, tallyBy}
-use Rattle.capi.specs.Capi.{settingsIn, tallyIn, tallyOut, settingsListNumber, talliedNumber, resultNumber, Lent, DecodeCall}
+use Rattle.vedrogne.specs.Interface.{settingsIn, tallyIn, tallyOut, settingsListNumber, talliedNumber, resultNumber, Lent, DecodeCall}
 
 -- ---- the tally's list
 

@@ -3,11 +3,11 @@ use native.Mathlib.Omega.{arith}
 use borrow.Author.Needs.{needs}
 use denote.Ref.{now}
 use Rattle.settings.specs.Slices.{slices}
-use Rattle.capi.specs.Capi.{Lent, lent}
-use Rattle.capi.specs.CapiLaws.{settings-short, settings-long}
-use Rattle.capi.proofs.Promises.{call-refused, call-decoded}
-use Rattle.capi.proofs.vedrogne_decode.Statement.{statement}
-use Rattle.capi.proofs.vedrogne_decode.Tie as tie
+use Rattle.vedrogne.specs.Interface.{Lent, lent}
+use Rattle.vedrogne.specs.InterfaceLaws.{settings-short, settings-long}
+use Rattle.vedrogne.proofs.Promises.{call-refused, call-decoded}
+use Rattle.vedrogne.proofs.vedrogne_decode.Statement.{statement}
+use Rattle.vedrogne.proofs.vedrogne_decode.Tie as tie
 
 -- what is lent
 abbrev given : tie.Start → Lent

@@ -3,7 +3,7 @@ use mathlib.Core.Path.{_≡_, refl}
 use mathlib.Core.List.{List, [], _∷_}
 use Rattle.decoder.specs.Decoder.{refused, ended}
 use Rattle.tally.specs.Tally.{counted}
-use Rattle.capi.specs.Capi.{settingsIn, tallyIn, tallyOut, settingsListNumber, talliedNumber, resultNumber, iterationsOut, reasonOut}
+use Rattle.vedrogne.specs.Interface.{settingsIn, tallyIn, tallyOut, settingsListNumber, talliedNumber, resultNumber, iterationsOut, reasonOut}
 
 -- the report's order; a seventh element is not read
 pub settings : settingsIn (1 ∷ 31 ∷ 16 ∷ 10 ∷ 2 ∷ 3 ∷ 99 ∷ [])

@@ -9,7 +9,7 @@ ghost use Rattle.polar.specs.Code.{encodeNumber, encodeBlock, readOutNumber, re
 ghost use Rattle.channel.specs.Front.{frontNumber, frontLlrs};
 ghost use Rattle.settings.specs.Slices.{slices};
 ghost use Rattle.decoder.specs.Decoder.{resultOf};
-ghost use Rattle.capi.specs.Capi.{codeIn, settingsIn, tallyIn, tallyOut, settingsListNumber, resultNumber, iterationsOut, reasonOut, lent, DecodeCall, TalliedCall};
+ghost use Rattle.vedrogne.specs.Interface.{codeIn, settingsIn, tallyIn, tallyOut, settingsListNumber, resultNumber, iterationsOut, reasonOut, lent, DecodeCall, TalliedCall};
 use calls::Answer;
 use channel::Channel;
 use decoder::Outcome;

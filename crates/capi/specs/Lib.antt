@@ -1,3 +1,0 @@
-pub mod Capi
-pub mod CapiLaws
-pub mod Cases

@@ -1,0 +1,3 @@
+pub mod Interface
+pub mod InterfaceLaws
+pub mod Cases
