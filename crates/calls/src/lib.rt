@@ -8,13 +8,17 @@ ghost use lib.IntN.{natAbs};
 ghost use Rattle.calls.specs.Bounds.{largestCeiling};
 ghost use Rattle.calls.specs.Numbers.{numberOf};
 
-// The ends of two ranges: of m, and of the ceiling.
+// The largest m, ceiling and scale, as document 01 has them.
 pub const LARGEST_M: u32 = 10;
 
 pub const LARGEST_CEILING: u32 = 2047;
 
-// The largest scale, in sixteenths.
 pub const LARGEST_SCALE: u32 = 16;
+
+// The positions of the largest block, and the elements of its workspace.
+pub const MOST_POSITIONS: usize = 1024;
+
+pub const MOST_WORKSPACE: usize = 22528;
 
 // Why a call is refused, in the order of the numbers.
 pub enum Refusal {

@@ -6,6 +6,7 @@ use mathlib.Core.List.{List, [], _∷_, _++_}
 use lib.Dec.{leb, eqb}
 use lib.IntN.{ℤ, pos, negsuc, natAbs}
 use lib.ListN.{length, getD, drop}
+use Rattle.calls.specs.Bounds.{largestM, mostPositions, mostWorkspace}
 use Rattle.calls.specs.Numbers.{between, refusalNumber}
 use Rattle.calls.specs.Signs.{isNegative, flipped}
 use Rattle.settings.specs.declared.Settings.{Settings}
@@ -26,13 +27,6 @@ longestText = 32768
 -- what a value below zero counts as: it lies outside every range as well
 abbrev pub outsideRanges : ℕ
 outsideRanges = 1000000
-
--- the positions of the largest block, m = 10, and the elements of its workspace: 1,024 and 22,528
-abbrev pub mostPositions : ℕ
-mostPositions = 2 ^ 10
-
-abbrev pub mostWorkspace : ℕ
-mostWorkspace = 2 * (10 + 1) * 2 ^ 10
 
 -- ---- the first three lines
 
@@ -141,7 +135,7 @@ tested s malformed = refused 14
 
 -- the first three lines are tested for 14, then m for 1
 abbrev pub sized : Reading Settings → Meaning
-sized (found s behind) = cond (between 1 10 (s .m)) (tested s (positionLines (2 ^ s .m) 0 behind)) (refused 1)
+sized (found s behind) = cond (between 1 largestM (s .m)) (tested s (positionLines (2 ^ s .m) 0 behind)) (refused 1)
 sized malformed = refused 14
 
 -- a text that is too long is 14 before anything else

@@ -10,6 +10,7 @@ use lib.IntN.{ℤ, pos}
 use borrow.Author.Tests.{le-leb, lt-leb}
 use lib.ListN.{length, drop, take, set, drop-of-length-le, take-append-drop}
 use lib.Seq.{take-suc-set, getD-take, drop-cons}
+use Rattle.calls.specs.Bounds.{largestM}
 use Rattle.calls.specs.declared.Refusal.{Refusal}
 use Rattle.calls.specs.Numbers.{between, refusalNumber, firstRefusal}
 use Rattle.calls.specs.NumberLaws.{refused-first}
@@ -186,7 +187,7 @@ tested-fit s (found b (x ∷ more)) long = tt
 
 sized-fit : (R : Reading Settings) → Means (sized R)
 sized-fit malformed = tt
-sized-fit (found s t) = either (between 1 10 (s .m))
+sized-fit (found s t) = either (between 1 largestM (s .m))
   where
     either : (ok : Bool) → Means (cond ok (tested s (positionLines (2 ^ s .m) 0 t)) (refused 1))
     either true = tested-fit s (positionLines (2 ^ s .m) 0 t) (position-lines-long (2 ^ s .m) 0 t)
@@ -264,10 +265,10 @@ pub read-refused : {old : Block} {means : Meaning} (r : Refusal) → means ≡ r
     → InputRead means old old (Refused r)
 read-refused r e = rw e (record { answer = refl; after-is = refl })
 
-pub sized-refused : (s : Settings) (t : List ℕ) → between 1 10 (s .m) ≡ false → sized (found s t) ≡ refused 1
+pub sized-refused : (s : Settings) (t : List ℕ) → between 1 largestM (s .m) ≡ false → sized (found s t) ≡ refused 1
 sized-refused s t e = rw e
 
-pub sized-tested : (s : Settings) (t : List ℕ) → between 1 10 (s .m) ≡ true
+pub sized-tested : (s : Settings) (t : List ℕ) → between 1 largestM (s .m) ≡ true
     → sized (found s t) ≡ tested s (positionLines (2 ^ s .m) 0 t)
 sized-tested s t e = rw e
 

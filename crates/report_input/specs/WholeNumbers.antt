@@ -11,17 +11,16 @@ use lib.Pow.{pow-mono}
 use lib.IntN.{ℤ, pos, negsuc, natAbs}
 use lib.ListN.{length, getD, length-map, List·getD-map}
 use borrow.Author.Tests.{leb-true, leb-false, le-leb, lt-leb}
+use Rattle.calls.specs.Bounds.{largestM, largestCeiling, largestScale, mostPositions, mostWorkspace}
 use Rattle.calls.specs.Numbers.{check, firstRefusal, between}
 use Rattle.calls.specs.NumberLaws.{between-passed}
 use Rattle.calls.specs.Signs.{isNegative}
 use Rattle.calls.specs.SignLaws.{size-flipped}
 use Rattle.polar.specs.Mask.{maskAccepted, byKind}
 use Rattle.polar.specs.Code.{informationCount}
-use Rattle.settings.specs.Settings.{operandFits, slicesFit, withinCeiling, decodeNumber}
+use Rattle.settings.specs.Settings.{largestLimit, operandFits, slicesFit, withinCeiling, decodeNumber}
 use Rattle.report_input.specs.Input.{
   outsideRanges,
-  mostPositions,
-  mostWorkspace,
   valueAt,
   unsigned,
   maskValue,
@@ -54,10 +53,10 @@ operandInRange C (negsuc n) operand = false
 -- m, C, k, T, criterion and operand in the first line, then N mask values and N LLRs
 abbrev pub wholeNumber : List ℤ → List ℤ → List ℤ → ℕ
 wholeNumber zs mask llr =
-    check (inRange 1 10 (valueAt zs 0)) 1
-    (check (inRange 1 2047 (valueAt zs 1)) 2
-    (check (inRange 1 16 (valueAt zs 2)) 3
-    (check (inRange 1 200 (valueAt zs 3)) 4
+    check (inRange 1 largestM (valueAt zs 0)) 1
+    (check (inRange 1 largestCeiling (valueAt zs 1)) 2
+    (check (inRange 1 largestScale (valueAt zs 2)) 3
+    (check (inRange 1 largestLimit (valueAt zs 3)) 4
     (check (inRange 0 3 (valueAt zs 4)) 5
     (check (operandInRange (natAbs (valueAt zs 1)) (valueAt zs 4) (valueAt zs 5)) 6
     (check (allOf (2 ^ natAbs (valueAt zs 0)) (inRange 0 1) mask) 8
@@ -111,7 +110,7 @@ mask-zero (pos (suc n)) =
 mask-zero (negsuc n) = refl
 
 -- 65,539 is no 3
-llr-size : (C : ℕ) (z : ℤ) → C ≤ 2047 → leb (natAbs (llrValue z)) C ≡ leb (natAbs z) C
+llr-size : (C : ℕ) (z : ℤ) → C ≤ largestCeiling → leb (natAbs (llrValue z)) C ≡ leb (natAbs z) C
 llr-size C z h = ap (λ (n : ℕ). leb n C) (size-flipped (isNegative z) (pos (min (natAbs z) 32767))) ∙ cut (natAbs z)
   where
     cut : (n : ℕ) → leb (min n 32767) C ≡ leb n C
@@ -143,7 +142,7 @@ mask-some (suc n) mask =
     one-more (suc c) zero = le-leb 1 (suc c + 1) (omega arith) ∙ sym (rw (le-leb 1 (suc c) (omega arith)))
     one-more (suc c) (suc k) = rw (add-zero (suc c), le-leb 1 (suc c) (omega arith))
 
-llr-sizes : (n C : ℕ) (llr : List ℤ) → C ≤ 2047
+llr-sizes : (n C : ℕ) (llr : List ℤ) → C ≤ largestCeiling
     → withinCeiling n C (map llrValue llr) ≡ allOf n (λ l. leb (natAbs l) C) llr
 llr-sizes zero C llr h = refl
 llr-sizes (suc n) C llr h =
@@ -152,7 +151,7 @@ llr-sizes (suc n) C llr h =
 
 -- ---- the whole chain of tests
 
-room-fits : (m n k : ℕ) → m ≤ 10 → n ≡ 2 ^ m → k ≡ 2 ^ m → slicesFit m n k largestLengths ≡ true
+room-fits : (m n k : ℕ) → m ≤ largestM → n ≡ 2 ^ m → k ≡ 2 ^ m → slicesFit m n k largestLengths ≡ true
 room-fits m n k h e f =
     let small : 2 ^ m ≤ 2 ^ 10 = pow-mono h in
     let columns : 2 * (m + 1) ≤ 22 = omega arith in
@@ -176,17 +175,17 @@ pub compared-whole : (zs mask llr : List ℤ) → length mask ≡ 2 ^ natAbs (va
     → length llr ≡ 2 ^ natAbs (valueAt zs 0)
     → decodeNumber (settingsOf zs) (map maskValue mask) (map llrValue llr) largestLengths ≡ wholeNumber zs mask llr
 compared-whole zs mask llr mask-long llr-long =
-    next-test _ _ 0 _ _ _ (range-whole 1 10 (valueAt zs 0) (lit< tt)) (λ one.
-    next-test _ _ 1 _ _ _ (range-whole 1 2047 (valueAt zs 1) (lit< tt)) (λ two.
-    next-test _ _ 2 _ _ _ (range-whole 1 16 (valueAt zs 2) (lit< tt)) (λ three.
-    next-test _ _ 3 _ _ _ (range-whole 1 200 (valueAt zs 3) (lit< tt)) (λ four.
+    next-test _ _ 0 _ _ _ (range-whole 1 largestM (valueAt zs 0) (lit< tt)) (λ one.
+    next-test _ _ 1 _ _ _ (range-whole 1 largestCeiling (valueAt zs 1) (lit< tt)) (λ two.
+    next-test _ _ 2 _ _ _ (range-whole 1 largestScale (valueAt zs 2) (lit< tt)) (λ three.
+    next-test _ _ 3 _ _ _ (range-whole 1 largestLimit (valueAt zs 3) (lit< tt)) (λ four.
     next-test _ _ 4 _ _ _ (up-to-whole 3 (valueAt zs 4) (lit< tt)) (λ five.
-    let m : unsigned (valueAt zs 0) ≡ natAbs (valueAt zs 0) = in-range 1 10 (valueAt zs 0) one in
-    let m-range : (1 ≤ natAbs (valueAt zs 0)) × (natAbs (valueAt zs 0) ≤ 10) =
-    between-passed 1 10 (natAbs (valueAt zs 0)) (rw (← m) (range-whole 1 10 (valueAt zs 0) (lit< tt) ∙ one)) in
-    let C : unsigned (valueAt zs 1) ≡ natAbs (valueAt zs 1) = in-range 1 2047 (valueAt zs 1) two in
-    let C-range : (1 ≤ natAbs (valueAt zs 1)) × (natAbs (valueAt zs 1) ≤ 2047) =
-    between-passed 1 2047 (natAbs (valueAt zs 1)) (rw (← C) (range-whole 1 2047 (valueAt zs 1) (lit< tt) ∙ two)) in
+    let m : unsigned (valueAt zs 0) ≡ natAbs (valueAt zs 0) = in-range 1 largestM (valueAt zs 0) one in
+    let m-range : (1 ≤ natAbs (valueAt zs 0)) × (natAbs (valueAt zs 0) ≤ largestM) =
+    between-passed 1 largestM (natAbs (valueAt zs 0)) (rw (← m) (range-whole 1 largestM (valueAt zs 0) (lit< tt) ∙ one)) in
+    let C : unsigned (valueAt zs 1) ≡ natAbs (valueAt zs 1) = in-range 1 largestCeiling (valueAt zs 1) two in
+    let C-range : (1 ≤ natAbs (valueAt zs 1)) × (natAbs (valueAt zs 1) ≤ largestCeiling) =
+    between-passed 1 largestCeiling (natAbs (valueAt zs 1)) (rw (← C) (range-whole 1 largestCeiling (valueAt zs 1) (lit< tt) ∙ two)) in
     let operand : operandFits (unsigned (valueAt zs 1)) (unsigned (valueAt zs 4)) (unsigned (valueAt zs 5))
     ≡ operandInRange (natAbs (valueAt zs 1)) (valueAt zs 4) (valueAt zs 5) =
     rw C (operand-whole (natAbs (valueAt zs 1)) (valueAt zs 4) (valueAt zs 5) (omega arith) five) in

@@ -4,6 +4,7 @@
 ghost use mathlib.Core.Path.{_≡_};
 ghost use Prim.Native.Nat.{_≤_, _<_, _^_};
 ghost use lib.ListN.{length, drop, take};
+ghost use Rattle.calls.specs.Bounds.{largestM};
 ghost use Rattle.calls.specs.Numbers.{numberOf, between};
 ghost use Rattle.scan.specs.Answers.{readTo};
 ghost use Rattle.scan.specs.Reading.{found};
@@ -11,6 +12,9 @@ ghost use Rattle.report_input.specs.Input.{valueAt, unsigned, maskValue,
 ghost use Rattle.report_input.specs.Input.{positionLine, positionLines, tested, sized, meaning, InputRead};
 ghost use Rattle.report_input.specs.Private.{headRead, positionRead, firstOf, numberIn};
 use calls::Answer;
+use calls::LARGEST_M;
+use calls::MOST_POSITIONS;
+use calls::MOST_WORKSPACE;
 use calls::Refusal;
 use scan::Next;
 use settings::Lengths;
@@ -21,11 +25,6 @@ pub const LONGEST_TEXT: usize = 32768;
 
 // What a value below zero counts as: it lies outside every range as well.
 const OUTSIDE_RANGES: u32 = 1000000;
-
-// The positions of the largest block, and the elements of its workspace.
-pub const MOST_POSITIONS: usize = 1024;
-
-pub const MOST_WORKSPACE: usize = 22528;
 
 // The settings of an accepted text, whose mask and LLRs stand in the lent slices.
 pub enum Input {
@@ -173,7 +172,7 @@ fn position_lines(text: &[u8], at: usize, n: usize, mask: &mut [u8], llr: &mut [
 // What refuses the lines of the positions, where the settings' m is in its range. They are read into memory of its own,
 // so that nothing is written yet.
 fn refusal(text: &[u8], at: usize, settings: Settings) -> Answer
-    requires { ⌜ (1 ≤ settings .m) × (settings .m ≤ 10) ⌝ }
+    requires { ⌜ (1 ≤ settings .m) × (settings .m ≤ largestM) ⌝ }
     ensures { λ r. ⌜ numberOf r
         ≡ numberIn (tested settings (positionLines (2 ^ settings .m) 0 (drop at (now (text .entry))))) ⌝ }
 {
@@ -200,9 +199,9 @@ fn refusal(text: &[u8], at: usize, settings: Settings) -> Answer
 
 // 1: m from 1 to 10.
 fn is_block_length(m: u32) -> bool
-    ensures { λ r. ⌜ r ≡ between 1 10 m ⌝ }
+    ensures { λ r. ⌜ r ≡ between 1 largestM m ⌝ }
 {
-    (1 <= m) & (m <= 10)
+    (1 <= m) & (m <= LARGEST_M)
 }
 
 // The lines of the positions behind the first three lines. Every test comes before the first write.

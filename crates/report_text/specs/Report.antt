@@ -8,7 +8,8 @@ use Rattle.settings.specs.declared.Settings.{Settings}
 use Rattle.decoder.specs.Decoder.{Ending, ending, final, softAt, markAt, codedSoftAt, codedMarkAt}
 use Rattle.calls.specs.Texts.{bytes}
 use Rattle.format.specs.Decimal.{line}
-use Rattle.report_input.specs.Input.{mostWorkspace, Block, Meaning, refused, block, meaning}
+use Rattle.calls.specs.Bounds.{mostWorkspace}
+use Rattle.report_input.specs.Input.{Block, Meaning, refused, block, meaning}
 
 -- the room that is enough for every output
 abbrev pub reportRoom : ℕ

@@ -10,7 +10,7 @@ use lib.IntN.{ℤ, pos}
 use lib.ListN.{length, getD, length-append}
 use lib.Pow.{pow-mono}
 use Rattle.calls.specs.declared.Refusal.{Refusal}
-use Rattle.calls.specs.Bounds.{largestM, largestCeiling}
+use Rattle.calls.specs.Bounds.{largestM, largestCeiling, mostPositions, mostWorkspace}
 use Rattle.message.specs.MessageLaws.{add-size}
 use Rattle.criteria.specs.CriteriaLaws.{mark-le}
 use Rattle.sweeps.specs.Workspace.{L, R}
@@ -50,7 +50,7 @@ use Rattle.settings.specs.Slices.{Slices, lengthsOf}
 use Rattle.calls.specs.Texts.{bytes}
 use Rattle.format.specs.Decimal.{line}
 use Rattle.format.specs.DecimalLaws.{line-length}
-use Rattle.report_input.specs.Input.{mostPositions, mostWorkspace, Block, largestLengths}
+use Rattle.report_input.specs.Input.{Block, largestLengths}
 use Rattle.report_input.specs.InputLaws.{Fit}
 use Rattle.report_text.specs.Report.{positionLines, outputsAt, outcomeText, blockText}
 use Rattle.report_text.specs.Private.{sliceValues, endingOf, headingText}

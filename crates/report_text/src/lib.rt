@@ -6,7 +6,8 @@ ghost use mathlib.Core.Path.{_≡_};
 ghost use Prim.Native.Nat.{_+_, _*_, _≤_};
 ghost use lib.ListN.{length};
 ghost use Rattle.calls.specs.Numbers.{refusalNumber};
-ghost use Rattle.report_input.specs.Input.{mostPositions, mostWorkspace, blockOf};
+ghost use Rattle.calls.specs.Bounds.{mostPositions, mostWorkspace};
+ghost use Rattle.report_input.specs.Input.{blockOf};
 ghost use Rattle.report_input.specs.InputLaws.{Fit};
 ghost use Rattle.format.specs.Decimal.{line};
 ghost use Rattle.format.specs.Wrote.{Wrote};
@@ -14,12 +15,12 @@ ghost use Rattle.report_text.specs.Report.{reportRoom, refusalText, posi
 ghost use Rattle.report_text.specs.Report.{outcomeText, blockText, report};
 ghost use Rattle.report_text.specs.Private.{sliceValues, endingOf, headingText, Within};
 use calls::Answer;
+use calls::MOST_POSITIONS;
+use calls::MOST_WORKSPACE;
 use calls::Refusal;
 use decoder::Outcome;
 use decoder::Reason;
 use report_input::Input;
-use report_input::MOST_POSITIONS;
-use report_input::MOST_WORKSPACE;
 use settings::Settings;
 
 // The room that is enough for every output.

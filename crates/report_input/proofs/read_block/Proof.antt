@@ -7,6 +7,7 @@ use native.Mathlib.Omega.{arith}
 use borrow.Author.Tests.{not-true, not-false}
 use lib.ListN.{drop}
 use lib.Pow.{pow-mono}
+use Rattle.calls.specs.Bounds.{largestM}
 use Rattle.calls.specs.declared.Refusal.the-variants.{BlockLength}
 use Rattle.calls.specs.Numbers.{numberOf, between}
 use Rattle.calls.specs.NumberLaws.{between-passed}
@@ -29,11 +30,11 @@ module _ (c : tie.Else1) where
   abbrev behind : List ℕ
   behind = drop (start .args .at) (start .args .text .now)
 
-  passed : between 1 10 (start .args .settings .m) ≡ true
+  passed : between 1 largestM (start .args .settings .m) ≡ true
   passed = sym (c .before .is-block-length .ensures) ∙ not-false (c .before .is-block-length .result) (c .if1 .left)
 
-  range : let m = start .args .settings .m in (1 ≤ m) × (m ≤ 10)
-  range = between-passed 1 10 (start .args .settings .m) passed
+  range : let m = start .args .settings .m in (1 ≤ m) × (m ≤ largestM)
+  range = between-passed 1 largestM (start .args .settings .m) passed
 
 small : (c : tie.After-power-of-two) → c .power-of-two .result ≤ 2 ^ 10
 small c = rw (c .power-of-two .ensures) (pow-mono (range (c .before .before .before .before) .1))

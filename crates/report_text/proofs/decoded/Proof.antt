@@ -7,7 +7,8 @@ use lib.IntN.{pos}
 use lib.ListN.{replicate, length-replicate}
 use Rattle.format.specs.Wrote.{Wrote}
 use Rattle.settings.specs.Slices.{Slices, slices, lengthsOf}
-use Rattle.report_input.specs.Input.{mostPositions, largestLengths, Block, blockOf}
+use Rattle.calls.specs.Bounds.{mostPositions}
+use Rattle.report_input.specs.Input.{largestLengths, Block, blockOf}
 use Rattle.report_text.specs.ReportLaws.{
   fit-length,
   DecodedBlock,

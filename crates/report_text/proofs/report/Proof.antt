@@ -9,7 +9,8 @@ use lib.Seq.{length-take-le}
 use Rattle.format.specs.Wrote.{Wrote}
 use Rattle.format.specs.WroteLaws.{wrote-length}
 use Rattle.report_text.specs.Private.{Within}
-use Rattle.report_input.specs.Input.{mostWorkspace, Block, blockOf, meaning}
+use Rattle.calls.specs.Bounds.{mostWorkspace}
+use Rattle.report_input.specs.Input.{Block, blockOf, meaning}
 use Rattle.report_input.specs.Private.{firstOf}
 use Rattle.report_input.specs.ReadLaws.{AcceptedText, accepted-text, refused-text}
 use Rattle.report_text.specs.Report.{reportRoom, textOf, report}
