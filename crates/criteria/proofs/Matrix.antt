@@ -1,4 +1,5 @@
--- Criterion 1: untied marks are bits; copied and coded in place they give the coded bits, which are compared with the coded marks.
+-- Criterion 1: untied marks are bits; copied and coded in place they give the coded bits, which
+-- are compared with the coded marks.
 use Prim.Native.Nat.{ℕ, zero, suc, _^_, _≤_, _<_}
 use mathlib.Core.Path.{_≡_, refl, ap, _∙_}
 use mathlib.Core.Bool.{Bool, true, false, not, Bool·beq, and-false}
@@ -23,7 +24,8 @@ use Rattle.calls.specs.EveryLaws.{every-at, every-same}
 pub tie-fails : (m : ℕ) (mark codedMark : ℕ → ℕ) → untied (2 ^ m) mark ≡ false → false ≡ gMatrix m mark codedMark
 tie-fails m mark codedMark e = rw e
 
-pub coded-tie-fails : (m : ℕ) (mark codedMark : ℕ → ℕ) → untied (2 ^ m) codedMark ≡ false → false ≡ gMatrix m mark codedMark
+pub coded-tie-fails : (m : ℕ) (mark codedMark : ℕ → ℕ) → untied (2 ^ m) codedMark ≡ false
+    → false ≡ gMatrix m mark codedMark
 coded-tie-fails m mark codedMark e = rw (e, and-false)
 
 pub room : (m : ℕ) → m ≤ largestM → 2 ^ m ≤ 1024
@@ -52,7 +54,8 @@ pub record Holds (m : ℕ) (marks x : List ℕ) : Type 0 where
   pub at : (i : ℕ) → i < 2 ^ m → getD x i 0 ≡ getD marks i 0
   pub bit : (i : ℕ) → i < 2 ^ m → getD marks i 0 ≤ 1
 
-pub copied-holds : {m : ℕ} {marks : List ℕ} (old x : List ℕ) → MarkBytes (2 ^ m) marks → untied (2 ^ m) (λ i. getD marks i 0) ≡ true
+pub copied-holds : {m : ℕ} {marks : List ℕ} (old x : List ℕ) → MarkBytes (2 ^ m) marks
+    → untied (2 ^ m) (λ i. getD marks i 0) ≡ true
     → 2 ^ m ≤ length old → x ≡ overwrite (2 ^ m) (λ i. getD marks i 0) old → Holds m marks x
 copied-holds {m} {marks} old x h clear l is = record {
   long = rw (is, length-overwrite) l;
@@ -77,9 +80,11 @@ module _ {m : ℕ} {marks x : List ℕ} (h : Holds m marks x) where
 
     pub compared : {codedMarks : List ℕ} → MarkBytes (2 ^ m) codedMarks → untied (2 ^ m) (λ i. getD marks i 0) ≡ true
         → untied (2 ^ m) (λ i. getD codedMarks i 0) ≡ true
-        → every (2 ^ m) (λ i. eqb (getD y i 0) (getD codedMarks i 0)) ≡ gMatrix m (λ i. getD marks i 0) (λ i. getD codedMarks i 0)
+        → every (2 ^ m) (λ i. eqb (getD y i 0) (getD codedMarks i 0))
+        ≡ gMatrix m (λ i. getD marks i 0) (λ i. getD codedMarks i 0)
     compared {codedMarks} k clear codedClear =
         rw (clear, codedClear)
         (every-same (2 ^ m) _ _ (λ i q.
         ap (λ (b : ℕ). eqb b (getD codedMarks i 0)) (coded-at i q)
-        ∙ byte-eqb (coded m (λ j. bitOf (getD marks j 0)) i) (getD codedMarks i 0) (untied-bit (2 ^ m) codedMarks k codedClear i q)))
+        ∙ byte-eqb (coded m (λ j. bitOf (getD marks j 0)) i) (getD codedMarks i 0)
+        (untied-bit (2 ^ m) codedMarks k codedClear i q)))

@@ -1,8 +1,7 @@
 -- One turn of the loops: what the element at i adds to what the first i give.
-use Prim.Native.Nat.{ℕ, zero, suc, _+_, _<_, min}
+use Prim.Native.Nat.{ℕ, zero, suc, _+_, min}
 use mathlib.Core.Path.{_≡_, refl, ap, _∙_}
 use mathlib.Core.Bool.{Bool, true, false, _&&_}
-use mathlib.Core.List.{List}
 use native.Mathlib.Numerals.{add-one}
 use native.Mathlib.Omega.{arith}
 use borrow.Author.Tests.{le-leb, lt-leb, leb-true, leb-false}
@@ -21,7 +20,8 @@ min-leb o a b = go (leb o a) (leb o b) refl refl
     go true false p q = lt-leb o (min a b) (omega (arith, leb-false o b q))
     go false t p q = lt-leb o (min a b) (omega (arith, leb-false o a p))
 
-pub least-next : (soft : ℕ → ℤ) (operand i least size : ℕ) → leb operand least ≡ leastSize i operand soft → size ≡ natAbs (soft i)
+pub least-next : (soft : ℕ → ℤ) (operand i least size : ℕ) → leb operand least ≡ leastSize i operand soft
+    → size ≡ natAbs (soft i)
     → leb operand (min least size) ≡ leastSize (i + 1) operand soft
 least-next soft operand i least size h e =
     min-leb operand least size ∙ every-next i (λ i. leb operand (natAbs (soft i))) h (ap (leb operand) e)

@@ -1,4 +1,5 @@
--- Signed values as the machine sees them, where a local x stands as toZ w16 (ofZ w16 x): what fits, the tests of a sign, and the marks.
+-- Signed values as the machine sees them, where a local x stands as toZ w16 (ofZ w16 x): what fits,
+-- the tests of a sign, and the marks.
 use Prim.Native.Nat.{zero, suc, _<_, _≤_}
 use mathlib.Core.Path.{_≡_, refl, sym}
 use mathlib.Core.Bool.{true, false, true≢false}

@@ -1,5 +1,5 @@
 -- Document 01, "Endings": the criteria. They read marks, soft values and the mask, never messages. Definitions only.
-use Prim.Native.Nat.{ℕ, zero, suc, _-_, _^_}
+use Prim.Native.Nat.{ℕ, suc, _-_, _^_}
 use mathlib.Core.Bool.{Bool, true, false, not, _&&_, Bool·beq}
 use mathlib.Core.List.{List}
 use lib.Dec.{leb, eqb}
@@ -19,7 +19,8 @@ untied n mark = every n (λ i. not (eqb (mark i) 2))
 
 abbrev pub gMatrix : ℕ → (ℕ → ℕ) → (ℕ → ℕ) → Bool
 gMatrix m mark codedMark =
-    untied (2 ^ m) mark && untied (2 ^ m) codedMark && every (2 ^ m) (λ i. Bool·beq (coded m (λ j. bitOf (mark j)) i) (bitOf (codedMark i)))
+    untied (2 ^ m) mark && untied (2 ^ m) codedMark
+    && every (2 ^ m) (λ i. Bool·beq (coded m (λ j. bitOf (mark j)) i) (bitOf (codedMark i)))
 
 -- 2, least size: every soft output has size at least the operand
 abbrev pub leastSize : ℕ → ℕ → (ℕ → ℤ) → Bool
@@ -33,7 +34,8 @@ sameMarks n mask before now = every n (λ i. byKind (getD mask i 0) (eqb (before
 abbrev pub steady : ℕ → (ℕ → Bool) → ℕ → Bool
 steady W same t = leb (suc W) t && every W (λ k. same (t - k))
 
--- whether the criterion holds after iteration t, where soft t i and codedSoft t i are the soft outputs of iteration t at position i
+-- whether the criterion holds after iteration t, where soft t i and codedSoft t i are the soft
+-- outputs of iteration t at position i
 abbrev pub holds : ℕ → Criterion → List ℕ → (ℕ → ℕ → ℤ) → (ℕ → ℕ → ℤ) → ℕ → Bool
 holds m Never mask soft codedSoft t = false
 holds m GMatrix mask soft codedSoft t = gMatrix m (λ i. markOf (soft t i)) (λ i. markOf (codedSoft t i))

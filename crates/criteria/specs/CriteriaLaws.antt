@@ -1,5 +1,5 @@
--- Laws of the criteria: each reads the first 2 ^ m places alone, and none changes where the signs of the soft outputs turn with the bits u
--- and those of the coded soft outputs with the coded bits.
+-- Laws of the criteria: each reads the first 2 ^ m places alone, and none changes where the signs of the soft outputs
+-- turn with the bits u and those of the coded soft outputs with the coded bits.
 use Prim.Native.Nat.{ℕ, zero, suc, _-_, _^_, _≤_, _<_}
 use mathlib.Core.Path.{_≡_, refl, sym, ap, ap₂, _∙_, fun-ext}
 use mathlib.Core.Bool.{Bool, true, false, not, _&&_, Bool·beq, true≢false}
@@ -17,7 +17,6 @@ use Rattle.polar.specs.TransformLaws.{coded-xor, coded-same}
 use Rattle.criteria.specs.declared.Criterion.{Criterion}
 use Rattle.criteria.specs.declared.Criterion.the-variants.{Never, GMatrix, LeastSize, Steady}
 use Rattle.criteria.specs.Marks.{markOf}
-use Rattle.calls.specs.Every.{every}
 use Rattle.criteria.specs.Criteria.{untied, gMatrix, leastSize, sameMarks, steady, holds}
 use Rattle.criteria.specs.Memory.{keptMarks}
 use Rattle.calls.specs.NumberLaws.{and-passed}
@@ -39,13 +38,15 @@ g-matrix-same m mark mark′ codedMark codedMark′ h k =
     ap₂ (λ (a b : Bool). a && b)
     (ap₂ (λ (a b : Bool). a && b) (untied-same (2 ^ m) mark mark′ h) (untied-same (2 ^ m) codedMark codedMark′ k))
     (every-same (2 ^ m) _ _ (λ i l.
-    ap₂ Bool·beq (coded-same m i (λ j. bitOf (mark j)) (λ j. bitOf (mark′ j)) (λ j q. ap bitOf (h j q))) (ap bitOf (k i l))))
+    ap₂ Bool·beq (coded-same m i (λ j. bitOf (mark j)) (λ j. bitOf (mark′ j)) (λ j q. ap bitOf (h j q)))
+    (ap bitOf (k i l))))
 
 pub least-size-same : (n operand : ℕ) (soft soft′ : ℕ → ℤ) → ((i : ℕ) → i < n → soft i ≡ soft′ i)
     → leastSize n operand soft ≡ leastSize n operand soft′
 least-size-same n operand soft soft′ h = every-same n _ _ (λ i l. ap (λ (z : ℤ). leb operand (natAbs z)) (h i l))
 
-pub same-marks-same : (n : ℕ) (mask : List ℕ) (before before′ now now′ : ℕ → ℕ) → ((i : ℕ) → i < n → before i ≡ before′ i)
+pub same-marks-same : (n : ℕ) (mask : List ℕ) (before before′ now now′ : ℕ → ℕ)
+    → ((i : ℕ) → i < n → before i ≡ before′ i)
     → ((i : ℕ) → i < n → now i ≡ now′ i) → sameMarks n mask before now ≡ sameMarks n mask before′ now′
 same-marks-same n mask before before′ now now′ h k =
     every-same n _ _ (λ i l. ap₂ (λ (x y : ℕ). byKind (getD mask i 0) (eqb x y) (λ bit. true)) (h i l) (k i l))
@@ -61,7 +62,8 @@ tie-flipped true (pos zero) = refl
 tie-flipped true (pos (suc n)) = refl
 tie-flipped true (negsuc n) = refl
 
-bit-flipped : (b : Bool) (z : ℤ) → not (eqb (markOf z) 2) ≡ true → bitOf (markOf (flipped b z)) ≡ xor b (bitOf (markOf z))
+bit-flipped : (b : Bool) (z : ℤ) → not (eqb (markOf z) 2) ≡ true
+    → bitOf (markOf (flipped b z)) ≡ xor b (bitOf (markOf z))
 bit-flipped false z e = refl
 bit-flipped true (pos zero) e = absurd (true≢false (sym e))
 bit-flipped true (pos (suc n)) e = refl
@@ -95,31 +97,39 @@ module _ (n : ℕ) (b : ℕ → Bool) (soft soft′ : ℕ → ℤ) (flips : (i :
   least-size-flipped operand =
       every-same n _ _ (λ i l. ap (leb operand) (ap natAbs (flips i l) ∙ size-flipped (b i) (soft i)))
 
-  turned : untied n (λ i. markOf (soft i)) ≡ true → (i : ℕ) → i < n → bitOf (markOf (soft′ i)) ≡ xor (b i) (bitOf (markOf (soft i)))
+  turned : untied n (λ i. markOf (soft i)) ≡ true → (i : ℕ) → i < n
+      → bitOf (markOf (soft′ i)) ≡ xor (b i) (bitOf (markOf (soft i)))
   turned e i l = rw (flips i l) (bit-flipped (b i) (soft i) (every-at n i (λ i. not (eqb (markOf (soft i)) 2)) e l))
 
-  pub same-marks-flipped : (mask : List ℕ) (before before′ : ℕ → ℤ) → ((i : ℕ) → i < n → before′ i ≡ flipped (b i) (before i))
-      → sameMarks n mask (λ i. markOf (before′ i)) (λ i. markOf (soft′ i)) ≡ sameMarks n mask (λ i. markOf (before i)) (λ i. markOf (soft i))
+  pub same-marks-flipped : (mask : List ℕ) (before before′ : ℕ → ℤ)
+      → ((i : ℕ) → i < n → before′ i ≡ flipped (b i) (before i))
+      → sameMarks n mask (λ i. markOf (before′ i)) (λ i. markOf (soft′ i))
+      ≡ sameMarks n mask (λ i. markOf (before i)) (λ i. markOf (soft i))
   same-marks-flipped mask before before′ h =
       every-same n _ _ (λ i l.
-      ap (λ (x : Bool). byKind (getD mask i 0) x (λ bit. true)) (rw (h i l, flips i l) (pair-flipped (b i) (before i) (soft i))))
+      ap (λ (x : Bool). byKind (getD mask i 0) x (λ bit. true))
+      (rw (h i l, flips i l) (pair-flipped (b i) (before i) (soft i))))
 
--- where a mark or a coded mark is tied the criterion fails before and after; elsewhere both sides of the comparison turn by the coded bit
+-- where a mark or a coded mark is tied the criterion fails before and after; elsewhere both sides of the
+-- comparison turn by the coded bit
 module _ (m : ℕ) (u : ℕ → Bool) (soft soft′ codedSoft codedSoft′ : ℕ → ℤ)
     (flips : (i : ℕ) → i < 2 ^ m → soft′ i ≡ flipped (u i) (soft i))
     (codedFlips : (i : ℕ) → i < 2 ^ m → codedSoft′ i ≡ flipped (coded m u i) (codedSoft i)) where
   abbrev bits : ℕ → Bool
   bits j = bitOf (markOf (soft j))
 
-  compared : untied (2 ^ m) (λ i. markOf (soft i)) ≡ true → untied (2 ^ m) (λ i. markOf (codedSoft i)) ≡ true → (i : ℕ) → i < 2 ^ m
-      → Bool·beq (coded m (λ j. bitOf (markOf (soft′ j))) i) (bitOf (markOf (codedSoft′ i))) ≡ Bool·beq (coded m bits i) (bitOf (markOf (codedSoft i)))
+  compared : untied (2 ^ m) (λ i. markOf (soft i)) ≡ true → untied (2 ^ m) (λ i. markOf (codedSoft i)) ≡ true → (i : ℕ)
+      → i < 2 ^ m
+      → Bool·beq (coded m (λ j. bitOf (markOf (soft′ j))) i) (bitOf (markOf (codedSoft′ i)))
+      ≡ Bool·beq (coded m bits i) (bitOf (markOf (codedSoft i)))
   compared e f i l =
       ap₂ Bool·beq
       (coded-same m i _ (λ j. xor (u j) (bits j)) (turned (2 ^ m) u soft soft′ flips e) ∙ coded-xor m i u bits)
       (turned (2 ^ m) (coded m u) codedSoft codedSoft′ codedFlips f i l)
       ∙ beq-xor (coded m u i) (coded m bits i) (bitOf (markOf (codedSoft i)))
 
-  pub g-matrix-flipped : gMatrix m (λ i. markOf (soft′ i)) (λ i. markOf (codedSoft′ i)) ≡ gMatrix m (λ i. markOf (soft i)) (λ i. markOf (codedSoft i))
+  pub g-matrix-flipped : gMatrix m (λ i. markOf (soft′ i)) (λ i. markOf (codedSoft′ i))
+      ≡ gMatrix m (λ i. markOf (soft i)) (λ i. markOf (codedSoft i))
   g-matrix-flipped =
       let marks = untied (2 ^ m) (λ i. markOf (soft i)) in
       let codedMarks = untied (2 ^ m) (λ i. markOf (codedSoft i)) in
@@ -130,9 +140,11 @@ module _ (m : ℕ) (u : ℕ → Bool) (soft soft′ codedSoft codedSoft′ : ℕ
 module _ (m : ℕ) (u : ℕ → Bool) (mask : List ℕ) (soft soft′ codedSoft codedSoft′ : ℕ → ℕ → ℤ)
     (flips : (t i : ℕ) → i < 2 ^ m → soft′ t i ≡ flipped (u i) (soft t i))
     (codedFlips : (t i : ℕ) → i < 2 ^ m → codedSoft′ t i ≡ flipped (coded m u i) (codedSoft t i)) where
-  pub holds-flipped : (criterion : Criterion) (t : ℕ) → holds m criterion mask soft′ codedSoft′ t ≡ holds m criterion mask soft codedSoft t
+  pub holds-flipped : (criterion : Criterion) (t : ℕ)
+      → holds m criterion mask soft′ codedSoft′ t ≡ holds m criterion mask soft codedSoft t
   holds-flipped Never t = refl
-  holds-flipped GMatrix t = g-matrix-flipped m u (soft t) (soft′ t) (codedSoft t) (codedSoft′ t) (flips t) (codedFlips t)
+  holds-flipped GMatrix t =
+      g-matrix-flipped m u (soft t) (soft′ t) (codedSoft t) (codedSoft′ t) (flips t) (codedFlips t)
   holds-flipped (LeastSize operand) t = least-size-flipped (2 ^ m) u (soft t) (soft′ t) (flips t) operand
   holds-flipped (Steady W) t =
       steady-same W t (keptMarks m mask soft′) (keptMarks m mask soft) (λ j.

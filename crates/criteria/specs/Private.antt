@@ -27,8 +27,10 @@ pub record MemoryInRange (memory : Memory) : Type 0 where
   pub iterations-lt : memory .iterations < 1000
   pub steady-le : memory .steady ≤ memory .iterations
 
--- the criterion after an iteration with these soft values and coded marks: the marks before it, those after it, and the answer
-pub record CriterionTried (m : ℕ) (criterion : Criterion) (memory : Memory) (mask : List ℕ) (soft : ℕ → ℤ) (codedMark : ℕ → ℕ)
+-- the criterion after an iteration with these soft values and coded marks: the marks before
+-- it, those after it, and the answer
+pub record CriterionTried (m : ℕ) (criterion : Criterion) (memory : Memory) (mask : List ℕ) (soft : ℕ → ℤ)
+    (codedMark : ℕ → ℕ)
     (marks marks′ : List ℕ) (r : Progress) : Type 0 where
   pub marks-are : marks′ ≡ overwrite (2 ^ m) (λ i. markOf (soft i)) marks
   pub memory-is : r .memory ≡ memoryNext m criterion mask memory (λ i. getD marks i 0) soft codedMark

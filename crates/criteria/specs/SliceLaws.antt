@@ -21,10 +21,13 @@ module _ {n : ℕ} {g : ℕ → ℤ} {old soft : List ℤ} (h : Written n g old 
   }
 
   -- the marks of soft values that have just been written
-  pub marked : (marks x : List ℕ) → x ≡ overwrite n (λ i. markOf (getD soft i (pos 0))) marks → x ≡ overwrite n (λ i. markOf (g i)) marks
-  marked marks x is = is ∙ overwrite-same n _ (λ i. markOf (g i)) marks (λ i l r. ap markOf (written-at h i (pos 0) l long))
+  pub marked : (marks x : List ℕ) → x ≡ overwrite n (λ i. markOf (getD soft i (pos 0))) marks
+      → x ≡ overwrite n (λ i. markOf (g i)) marks
+  marked marks x is =
+      is ∙ overwrite-same n _ (λ i. markOf (g i)) marks (λ i l r. ap markOf (written-at h i (pos 0) l long))
 
-pub mark-bytes : {n : ℕ} (g : ℕ → ℤ) {old marks : List ℕ} → Written n (λ i. markOf (g i)) old marks → n ≤ length old → MarkBytes n marks
+pub mark-bytes : {n : ℕ} (g : ℕ → ℤ) {old marks : List ℕ} → Written n (λ i. markOf (g i)) old marks → n ≤ length old
+    → MarkBytes n marks
 mark-bytes g h long = record {
   long = omega (arith, written-length h);
   at = λ i l. rw (written-at h i 0 l long) (mark-le (g i));

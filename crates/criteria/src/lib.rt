@@ -1,11 +1,11 @@
 // The criteria: marks of soft values, and whether the criterion holds after an iteration.
-// It sees `calls` and `polar`, and reads marks, soft values and the mask, never a message. It promises document 01's marks and criteria.
-// Its functions are offered to the crates above, which have tested the settings and the lengths.
+// It sees `calls` and `polar`, and reads marks, soft values and the mask, never a message. It promises document 01's
+// marks and criteria. Its functions are offered to the crates above, which have tested the settings and the lengths.
 ghost use mathlib.Core.Path.{_≡_};
-ghost use mathlib.Core.Bool.{true, _&&_};
-ghost use Prim.Native.Nat.{_+_, _<_, _≤_, _^_, min};
+ghost use mathlib.Core.Bool.{true};
+ghost use Prim.Native.Nat.{_+_, _<_, _≤_, _^_};
 ghost use lib.Dec.{eqb};
-ghost use lib.IntN.{pos, natAbs};
+ghost use lib.IntN.{pos};
 ghost use lib.ListN.{length, getD};
 ghost use Rattle.calls.specs.Bounds.{largestM};
 ghost use Rattle.polar.specs.Mask.{byKind};
@@ -88,7 +88,8 @@ fn keeps_mark(kind: u8, before: u8, now: u8) -> bool
 // Whether the marks of the first n soft values are those of the iteration before, at the information positions.
 pub fn same_marks(mask: &[u8], before: &[u8], soft: &[i16], n: usize) -> bool
     requires { ⌜ (n ≤ length (now mask)) × (n ≤ length (now before)) × (n ≤ length (now soft)) ⌝ }
-    ensures { λ r. ⌜ r ≡ sameMarks n (now (mask .entry)) (λ i. getD (now (before .entry)) i 0) (λ i. markOf (getD (now (soft .entry)) i (pos 0))) ⌝ }
+    ensures { λ r. ⌜ r ≡ sameMarks n (now (mask .entry)) (λ i. getD (now (before .entry)) i 0)
+        (λ i. markOf (getD (now (soft .entry)) i (pos 0))) ⌝ }
 {
     let mut same = true;
     let mut i = 0;
@@ -144,7 +145,8 @@ pub fn g_matrix(m: u32, marks: &[u8], coded: &[u8]) -> bool
     equal(&bits, coded, n)
 }
 
-// The steady count after one iteration more: the first iteration has none before it, and a change of the marks starts the count again.
+// The steady count after one iteration more: the first iteration has none before it, and a change of
+// the marks starts the count again.
 fn steady_after(iterations: u32, steady: u32, same: bool) -> u32
     requires { ⌜ steady < 1000 ⌝ }
     ensures { λ r. ⌜ r ≡ steadyNext iterations steady same ⌝ }
@@ -155,8 +157,9 @@ fn steady_after(iterations: u32, steady: u32, same: bool) -> u32
     if same { steady + 1 } else { 0 }
 }
 
-// What a criterion remembers between iterations: how many there were, and under criterion 3 how many of the last ones kept the marks
-// at the information positions. The decoder hands it on and takes no part of it; what a later criterion remembers joins it here.
+// What a criterion remembers between iterations: how many there were, and under criterion 3 how many of the last ones
+// kept the marks at the information positions. The decoder hands it on and takes no part of it; what a later
+// criterion remembers joins it here.
 pub struct Memory {
     iterations: u32,
     steady: u32,
@@ -179,7 +182,8 @@ impl Memory {
         }
     }
 
-    // The steady count after an iteration with these soft values, where `before` holds the marks of the iteration before.
+    // The steady count after an iteration with these soft values, where `before` holds
+    // the marks of the iteration before.
     fn steady_next(
         self,
         m: u32,
@@ -253,8 +257,8 @@ fn holds_now(
     }
 }
 
-// The criterion, tried after an iteration with these soft values and coded marks. `marks` holds the marks of the iteration before,
-// unless this is the first, and afterwards those of this one.
+// The criterion, tried after an iteration with these soft values and coded marks. `marks` holds the marks of the
+// iteration before, unless this is the first, and afterwards those of this one.
 pub fn try_criterion(
     m: u32,
     criterion: Criterion,

@@ -21,7 +21,8 @@ abbrev pub codedSoftBy : MinSum → ℕ → List ℤ → ℕ → ℤ
 codedSoftBy rule m w i = add rule (L m w m i) (R m w m i)
 
 -- a message that a loop reads: at position i of the row k, which starts at the element `at`
-module _ {rule : MinSum} {m : ℕ} {w : List ℤ} (valid : WorkspaceValid rule m w) (at k i : ℕ) (e : at ≡ k * 2 ^ m) (hk : k < 2 * (m + 1))
+module _ {rule : MinSum} {m : ℕ} {w : List ℤ} (valid : WorkspaceValid rule m w) (at k i : ℕ) (e : at ≡ k * 2 ^ m)
+    (hk : k < 2 * (m + 1))
     (hi : i < 2 ^ m) where
   pub in-work : at + i < length w
   in-work = rw e (omega (arith, row-lt m k i hk hi, valid .room))

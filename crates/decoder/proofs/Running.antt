@@ -4,7 +4,6 @@ use mathlib.Core.Path.{_≡_, refl, sym, ap, subst, _∙_}
 use mathlib.Core.Bool.{true, false}
 use mathlib.Core.List.{List}
 use native.Mathlib.Omega.{arith}
-use lib.IntN.{ℤ}
 use lib.ListN.{getD}
 use Rattle.criteria.specs.declared.Memory.{Memory}
 use Rattle.criteria.specs.declared.Progress.{Progress}
@@ -16,20 +15,32 @@ use Rattle.decoder.specs.declared.Outcome.the-variants.{Ended}
 use Rattle.decoder.specs.declared.Reason.the-variants as reason
 use Rattle.decoder.specs.Decoder.{markAt}
 use Rattle.decoder.specs.Run.{endOf, slicesAfter, EndsAs, OneIteration, RunGoesOn}
-use Rattle.decoder.specs.RunLaws.{run-begins, run-next, run-ends, run-ends-last, slices-next, slices-lengths, slices-marks}
+use Rattle.decoder.specs.RunLaws.{
+  run-begins,
+  run-next,
+  run-ends,
+  run-ends-last,
+  slices-next,
+  slices-lengths,
+  slices-marks,
+}
 use Rattle.decoder.specs.OutputLaws.{fit-same}
 
 pub record Steps (s : Settings) (mask : List ℕ) (t : ℕ) (memory : Memory) (first now : Slices) : Type 0 where
   pub goes-on : RunGoesOn s mask (first .work) t memory (now .work)
   pub slices : now ≡ slicesAfter s mask t first
 
-pub no-steps : (s : Settings) (mask : List ℕ) {memory : Memory} (first : Slices) → memory ≡ nothing → Steps s mask 0 memory first first
+pub no-steps : (s : Settings) (mask : List ℕ) {memory : Memory} (first : Slices) → memory ≡ nothing
+    → Steps s mask 0 memory first first
 no-steps s mask first is = record {
-  goes-on = subst (λ (m : Memory). RunGoesOn s mask (first .work) 0 m (first .work)) (sym is) (run-begins s mask (first .work));
+  goes-on =
+      subst (λ (m : Memory). RunGoesOn s mask (first .work) 0 m (first .work)) (sym is)
+      (run-begins s mask (first .work));
   slices = refl;
 }
 
-module _ {s : Settings} {mask : List ℕ} {t : ℕ} {memory : Memory} {first now : Slices} (h : Steps s mask t memory first now) where
+module _ {s : Settings} {mask : List ℕ} {t : ℕ} {memory : Memory} {first now : Slices}
+    (h : Steps s mask t memory first now) where
   pub steps-lengths : lengthsOf now ≡ lengthsOf first
   steps-lengths = ap lengthsOf (h .slices) ∙ slices-lengths s mask t first
 
@@ -47,18 +58,23 @@ module _ {s : Settings} {mask : List ℕ} {t : ℕ} {memory : Memory} {first now
     module _ (fits : OutputsFit (2 ^ s .m) first) where
       marks : 1 ≤ t → (i : ℕ) → i < 2 ^ s .m → getD (now .mark) i 0 ≡ markAt s mask (now .work) i
       marks some i l =
-          subst (λ (y : Slices). getD (y .mark) i 0 ≡ markAt s mask (y .work) i) (sym (h .slices)) (slices-marks s mask t first fits some i l)
+          subst (λ (y : Slices). getD (y .mark) i 0 ≡ markAt s mask (y .work) i) (sym (h .slices))
+          (slices-marks s mask t first fits some i l)
 
       pub next-step : r .holds ≡ false → (n : ℕ) → n ≡ suc t → Steps s mask n (r .memory) first x
       next-step fails n e = rw e record { goes-on = run-next (h .goes-on) marks step fails; slices = next-slices }
 
       pub found : r .holds ≡ true → suc t ≤ s .limit → (n : ℕ) → n ≡ suc t
           → EndsAs s mask (endOf s mask (first .work)) first x (Ended n reason.Criterion)
-      found ok high n is = let e = run-ends (h .goes-on) marks step ok high in record { answer = rw (e, is); slices = next-slices ∙ rw e }
+      found ok high n is =
+          let e = run-ends (h .goes-on) marks step ok high in
+          record { answer = rw (e, is); slices = next-slices ∙ rw e }
 
 -- at the limit, which is no 0
-pub steps-ended : (t : ℕ) {s : Settings} {mask : List ℕ} {memory : Memory} {first now : Slices} → Steps s mask t memory first now
+pub steps-ended : (t : ℕ) {s : Settings} {mask : List ℕ} {memory : Memory} {first now : Slices}
+    → Steps s mask t memory first now
     → t ≡ s .limit → 1 ≤ t → EndsAs s mask (endOf s mask (first .work)) first now (Ended t reason.Limit)
 steps-ended zero h last some = absurd (omega arith)
 steps-ended (suc t) h last some =
-    let e = run-ends-last (h .goes-on) last some in record { answer = rw (e, ← last); slices = h .slices ∙ rw (e, ← last) }
+    let e = run-ends-last (h .goes-on) last some in
+    record { answer = rw (e, ← last); slices = h .slices ∙ rw (e, ← last) }

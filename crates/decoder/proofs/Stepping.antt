@@ -1,9 +1,10 @@
--- One iteration from its two parts: the iteration with its soft outputs and coded outputs, and the criterion with the marks.
+-- One iteration from its two parts: the iteration with its soft outputs and coded outputs,
+-- and the criterion with the marks.
 use Prim.Native.Nat.{ℕ, _^_, _≤_, _<_}
 use mathlib.Core.Path.{_≡_, refl, ap, subst, _∙_}
 use mathlib.Core.List.{List}
 use lib.IntN.{ℤ, pos}
-use lib.ListN.{length, getD}
+use lib.ListN.{getD}
 use Rattle.calls.specs.Bounds.{largestCeiling}
 use Rattle.calls.specs.Memory.{overwrite}
 use Rattle.calls.specs.WrittenLaws.{Written, written-at}
@@ -22,7 +23,8 @@ use Rattle.decoder.specs.Decoder.{ruleOf, softAt, codedSoftAt, codedMark
 use Rattle.decoder.specs.OutputLaws.{soft-size}
 use Rattle.decoder.specs.Run.{OneIteration}
 
-module _ (s : Settings) (mask : List ℕ) (before : Slices) (fits : OutputsFit (2 ^ s .m) before) {soft codedSoft : List ℤ} {codedMark : List ℕ}
+module _ (s : Settings) (mask : List ℕ) (before : Slices) (fits : OutputsFit (2 ^ s .m) before)
+    {soft codedSoft : List ℤ} {codedMark : List ℕ}
     {work : List ℤ} (work-is : work ≡ iteration (ruleOf s) (s .m) (before .work))
     (soft-is : soft ≡ overwrite (2 ^ s .m) (softAt s mask work) (before .soft))
     (codedSoft-is : codedSoft ≡ overwrite (2 ^ s .m) (codedSoftAt s work) (before .codedSoft))
@@ -40,16 +42,21 @@ module _ (s : Settings) (mask : List ℕ) (before : Slices) (fits : OutputsFit (
     mark-bytes (codedSoftAt s work) codedMarks (fits .codedMark),
   )
 
-  pub one-iteration : (memory : Memory) {criterion : Criterion} {mark : List ℕ} {r : Progress} → criterion ≡ criterionOf s
-      → CriterionTried (s .m) criterion memory mask (λ i. getD soft i (pos 0)) (λ i. getD codedMark i 0) (before .mark) mark r
+  pub one-iteration : (memory : Memory) {criterion : Criterion} {mark : List ℕ} {r : Progress}
+      → criterion ≡ criterionOf s
+      → CriterionTried (s .m) criterion memory mask (λ i. getD soft i (pos 0)) (λ i. getD codedMark i 0) (before .mark)
+      mark r
       → OneIteration s memory mask before (slices soft mark codedSoft codedMark work) r
   one-iteration memory {criterion} {mark} {r} is given =
       let tried = subst
-      (λ (k : Criterion). CriterionTried (s .m) k memory mask (λ i. getD soft i (pos 0)) (λ i. getD codedMark i 0) (before .mark) mark r) is given in
-      let values : (i : ℕ) → i < 2 ^ s .m → getD soft i (pos 0) ≡ softAt s mask work i = λ i l. written-at softs i (pos 0) l (fits .soft) in
+      (λ (k : Criterion). CriterionTried (s .m) k memory mask (λ i. getD soft i (pos 0)) (λ i. getD codedMark i 0)
+      (before .mark) mark r) is given in
+      let values : (i : ℕ) → i < 2 ^ s .m → getD soft i (pos 0) ≡ softAt s mask work i =
+      λ i l. written-at softs i (pos 0) l (fits .soft) in
       record {
         slices =
-            slices-same soft-is (marked softs (fits .soft) (before .mark) mark (tried .marks-are)) codedSoft-is codedMark-is refl
+            slices-same soft-is (marked softs (fits .soft) (before .mark) mark (tried .marks-are)) codedSoft-is
+            codedMark-is refl
             ∙ ap (λ (w : List ℤ). outputsOf s mask w before) work-is;
         memory-is =
             tried .memory-is

@@ -1,7 +1,8 @@
--- Document 01, the outputs of "Messages", "Endings", and what a call of the decoder answers and leaves. Definitions only.
+-- Document 01, the outputs of "Messages", "Endings", and what a call of the decoder
+-- answers and leaves. Definitions only.
 use Prim.Native.Nat.{ℕ, zero, suc, _-_, _^_}
 use mathlib.Core.Path.{_≡_}
-use mathlib.Core.Bool.{Bool, true, false, cond}
+use mathlib.Core.Bool.{Bool, cond}
 use mathlib.Core.List.{List}
 use lib.IntN.{ℤ}
 use lib.ListN.{getD}
@@ -23,13 +24,15 @@ use Rattle.decoder.specs.declared.Reason.the-variants as reason
 use Rattle.decoder.specs.declared.Outcome.{Outcome}
 use Rattle.decoder.specs.declared.Outcome.the-variants.{Ended, Refused}
 
--- ---- outputs: the soft output of position i is L(0, i) + R(0, i), the coded soft output L(m, i) + R(m, i), both cut to the ceiling
+-- ---- outputs: the soft output of position i is L(0, i) + R(0, i), the coded soft output L(m, i) + R(m, i),
+-- both cut to the ceiling
 
 -- the settings of the message arithmetic
 abbrev pub ruleOf : Settings → MinSum
 ruleOf s = record { ceiling = s .ceiling; scale = s .scale }
 
--- what a soft output is: by the position's mask byte, which makes no difference yet, from the messages of both directions
+-- what a soft output is: by the position's mask byte, which makes no difference yet,
+-- from the messages of both directions
 abbrev pub softOf : MinSum → ℕ → ℤ → ℤ → ℤ
 softOf rule kind left right = add rule left right
 
@@ -67,7 +70,8 @@ pub record Ending : Type 0 where
   pub iteration : ℕ
   pub reason : ℕ
 
--- the first iteration from t on where the criterion holds, with reason 1; if there is none among it and the n behind it, the last, with reason 2
+-- the first iteration from t on where the criterion holds, with reason 1; if there is none among it and the n
+-- behind it, the last, with reason 2
 abbrev pub endingFrom : (ℕ → Bool) → ℕ → ℕ → Ending
 endingFrom held t zero = cond (held t) (record { iteration = t; reason = 1 }) (record { iteration = t; reason = 2 })
 endingFrom held t (suc n) = cond (held t) (record { iteration = t; reason = 1 }) (endingFrom held (suc t) n)

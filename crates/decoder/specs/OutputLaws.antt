@@ -1,11 +1,11 @@
--- Laws of the outputs: the size of a soft output, how a turned sign comes out of it, and slices that take the outputs of a workspace.
-use Prim.Native.Nat.{ℕ, zero, suc, _^_, _≤_, _<_}
+-- Laws of the outputs: the size of a soft output, how a turned sign comes out of it, and slices that
+-- take the outputs of a workspace.
+use Prim.Native.Nat.{ℕ, _^_, _≤_}
 use mathlib.Core.Path.{_≡_, refl, sym, subst}
 use mathlib.Core.Bool.{Bool, false}
 use mathlib.Core.List.{List}
 use lib.IntN.{ℤ, natAbs}
 use lib.ListN.{length}
-use Rattle.calls.specs.Memory.{overwrite}
 use Rattle.calls.specs.MemoryLaws.{length-overwrite, overwrite-twice}
 use Rattle.calls.specs.Signs.{flipped}
 use Rattle.message.specs.declared.MinSum.{MinSum}
@@ -30,13 +30,15 @@ soft-flipped rule kind b left right frozen = add-flipped rule b left right
 
 module _ (s : Settings) (mask : List ℕ) where
   -- they take the place of those of another
-  pub outputs-again : (w v : List ℤ) (old : Slices) → outputsOf s mask w (outputsOf s mask v old) ≡ outputsOf s mask w old
+  pub outputs-again : (w v : List ℤ) (old : Slices)
+      → outputsOf s mask w (outputsOf s mask v old) ≡ outputsOf s mask w old
   outputs-again w v old =
       slices-same (overwrite-twice (2 ^ s .m) _ _ (old .soft)) (overwrite-twice (2 ^ s .m) _ _ (old .mark))
       (overwrite-twice (2 ^ s .m) _ _ (old .codedSoft)) (overwrite-twice (2 ^ s .m) _ _ (old .codedMark)) refl
 
   -- and keep every length
-  pub outputs-lengths : (w : List ℤ) (old : Slices) → length w ≡ length (old .work) → lengthsOf (outputsOf s mask w old) ≡ lengthsOf old
+  pub outputs-lengths : (w : List ℤ) (old : Slices) → length w ≡ length (old .work)
+      → lengthsOf (outputsOf s mask w old) ≡ lengthsOf old
   outputs-lengths w old same i =
       record {
         soft = length-overwrite (2 ^ s .m) (softAt s mask w) (old .soft) i;

@@ -1,5 +1,5 @@
--- What the decoder can answer (a refusal from 1 to 10, or an ending at an iteration from 1 to the largest limit by reason 1 or 2), and what an
--- accepted call writes at each place.
+-- What the decoder can answer (a refusal from 1 to 10, or an ending at an iteration from 1 to the largest limit by
+-- reason 1 or 2), and what an accepted call writes at each place.
 use Prim.Native.Nat.{ℕ, zero, suc, _+_, _-_, _^_, _≤_, _<_}
 use mathlib.Core.Path.{_≡_, refl, ap, _∙_}
 use mathlib.Core.Bool.{Bool, true, false, cond}
@@ -15,7 +15,24 @@ use Rattle.settings.specs.Settings.{largestLimit, settingsNumber}
 use Rattle.settings.specs.Slices.{Slices, lengthsOf}
 use Rattle.settings.specs.SettingsLaws.{accepted}
 use Rattle.settings.specs.SlicesLaws.{OutputsFit, outputs-fit}
-use Rattle.decoder.specs.Decoder.{Ending, endingFrom, ending, Result, refused, ended, resultBy, outputsOf, softAt, markAt, codedSoftAt, codedMarkAt, final, callNumber, decodeResult, decodeSlices}
+use Rattle.decoder.specs.Decoder.{
+  Ending,
+  endingFrom,
+  ending,
+  Result,
+  refused,
+  ended,
+  resultBy,
+  outputsOf,
+  softAt,
+  markAt,
+  codedSoftAt,
+  codedMarkAt,
+  final,
+  callNumber,
+  decodeResult,
+  decodeSlices,
+}
 
 abbrev pub DecoderAnswer : Result → Type 0
 DecoderAnswer (refused number) = (1 ≤ number) × (number ≤ 10)
@@ -30,16 +47,19 @@ record EndsWithin (low high : ℕ) (e : Ending) : Type 0 where
   pub reason-some : 1 ≤ e .reason
   pub reason-le : e .reason ≤ 2
 
-here : {low high : ℕ} (t reason : ℕ) → low ≤ t → t ≤ high → 1 ≤ reason → reason ≤ 2 → EndsWithin low high (record { iteration = t; reason = reason })
+here : {low high : ℕ} (t reason : ℕ) → low ≤ t → t ≤ high → 1 ≤ reason → reason ≤ 2
+    → EndsWithin low high (record { iteration = t; reason = reason })
 here t reason l h some le = record { low-le = l; le-high = h; reason-some = some; reason-le = le }
 
-either : {low high : ℕ} {a b : Ending} (test : Bool) → EndsWithin low high a → EndsWithin low high b → EndsWithin low high (cond test a b)
+either : {low high : ℕ} {a b : Ending} (test : Bool) → EndsWithin low high a → EndsWithin low high b
+    → EndsWithin low high (cond test a b)
 either true l r = l
 either false l r = r
 
 ending-from : (held : ℕ → Bool) (n a : ℕ) → EndsWithin a (a + n) (endingFrom held a n)
 ending-from held zero a =
-    either (held a) (here a 1 (omega arith) (omega arith) (omega arith) (omega arith)) (here a 2 (omega arith) (omega arith) (omega arith) (omega arith))
+    either (held a) (here a 1 (omega arith) (omega arith) (omega arith) (omega arith))
+    (here a 2 (omega arith) (omega arith) (omega arith) (omega arith))
 ending-from held (suc n) a =
     let later = ending-from held n (suc a) in
     either (held a) (here a 1 (omega arith) (omega arith) (omega arith) (omega arith))
@@ -55,7 +75,8 @@ then-le : {most : ℕ} (first next : ℕ) → first ≤ most → next ≤ most �
 then-le zero next h k = k
 then-le (suc number) next h k = h
 
-by-number : (number : ℕ) (e : Ending) → number ≤ 10 → (number ≡ 0 → EndsWithin 1 largestLimit e) → DecoderAnswer (resultBy number e)
+by-number : (number : ℕ) (e : Ending) → number ≤ 10 → (number ≡ 0 → EndsWithin 1 largestLimit e)
+    → DecoderAnswer (resultBy number e)
 by-number zero e h w = let r = w refl in (r .low-le, r .le-high, r .reason-some, r .reason-le)
 by-number (suc number) e h w = (omega arith, h)
 
@@ -84,7 +105,8 @@ module _ (s : Settings) (mask : List ℕ) (llr : List ℤ) (lent : Slices) (ok :
   fits = outputs-fit lent (accepted s mask llr (lengthsOf lent) ok .slices)
 
   module _ (i : ℕ) (l : i < 2 ^ s .m) where
-    pub soft-written : getD (decodeSlices s mask llr lent .soft) i (pos 0) ≡ softAt s mask (final s mask llr (lent .work)) i
+    pub soft-written : getD (decodeSlices s mask llr lent .soft) i (pos 0)
+        ≡ softAt s mask (final s mask llr (lent .work)) i
     soft-written =
         ap (λ (x : Slices). getD (x .soft) i (pos 0)) written
         ∙ overwrite-at (2 ^ s .m) _ (lent .soft) i (pos 0) l (omega (arith, fits .soft))
@@ -94,12 +116,14 @@ module _ (s : Settings) (mask : List ℕ) (llr : List ℤ) (lent : Slices) (ok :
         ap (λ (x : Slices). getD (x .mark) i 0) written
         ∙ overwrite-at (2 ^ s .m) _ (lent .mark) i 0 l (omega (arith, fits .mark))
 
-    pub codedSoft-written : getD (decodeSlices s mask llr lent .codedSoft) i (pos 0) ≡ codedSoftAt s (final s mask llr (lent .work)) i
+    pub codedSoft-written : getD (decodeSlices s mask llr lent .codedSoft) i (pos 0)
+        ≡ codedSoftAt s (final s mask llr (lent .work)) i
     codedSoft-written =
         ap (λ (x : Slices). getD (x .codedSoft) i (pos 0)) written
         ∙ overwrite-at (2 ^ s .m) _ (lent .codedSoft) i (pos 0) l (omega (arith, fits .codedSoft))
 
-    pub codedMark-written : getD (decodeSlices s mask llr lent .codedMark) i 0 ≡ codedMarkAt s (final s mask llr (lent .work)) i
+    pub codedMark-written : getD (decodeSlices s mask llr lent .codedMark) i 0
+        ≡ codedMarkAt s (final s mask llr (lent .work)) i
     codedMark-written =
         ap (λ (x : Slices). getD (x .codedMark) i 0) written
         ∙ overwrite-at (2 ^ s .m) _ (lent .codedMark) i 0 l (omega (arith, fits .codedMark))

@@ -1,5 +1,5 @@
--- A run of the decoder from a workspace w: what stands there after t iterations, when it ends, and what one iteration leaves. `decode` is
--- the run from the start (`run-from-start` of RunLaws). Definitions only.
+-- A run of the decoder from a workspace w: what stands there after t iterations, when it ends, and what one iteration
+-- leaves. `decode` is the run from the start (`run-from-start` of RunLaws). Definitions only.
 use Prim.Native.Nat.{ℕ, zero, suc, _≤_}
 use mathlib.Core.Path.{_≡_}
 use mathlib.Core.Bool.{Bool, false}
@@ -64,8 +64,10 @@ pub record EndsAs (s : Settings) (mask : List ℕ) (e : Ending) (before after : 
   pub answer : resultOf r ≡ ended (e .iteration) (e .reason)
   pub slices : after ≡ outputsOf s mask (workAfter s mask (before .work) (e .iteration)) before
 
--- one iteration: the slices before and after it, and the criterion's answer. The marks before it are those of the mark slice
-pub record OneIteration (s : Settings) (memory : Memory) (mask : List ℕ) (before after : Slices) (r : Progress) : Type 0 where
+-- one iteration: the slices before and after it, and the criterion's answer. The marks
+-- before it are those of the mark slice
+pub record OneIteration (s : Settings) (memory : Memory) (mask : List ℕ) (before after : Slices)
+    (r : Progress) : Type 0 where
   pub slices : after ≡ outputsOf s mask (iteration (ruleOf s) (s .m) (before .work)) before
   pub memory-is : r .memory
       ≡ memoryNext (s .m) (criterionOf s) mask memory (λ i. getD (before .mark) i 0) (softAt s mask (after .work))

@@ -1,14 +1,15 @@
--- Laws of a run: where it starts, what one step more gives, when it has ended, and that `decode` is the run from the start. Who makes one
--- step at a time keeps the workspace, what the criterion remembers, and the count of the iterations (`RunGoesOn`).
+-- Laws of a run: where it starts, what one step more gives, when it has ended, and that `decode` is the run
+-- from the start. Who makes one step at a time keeps the workspace, what the criterion remembers, and the count
+-- of the iterations (`RunGoesOn`).
 use Prim.Native.Nat.{ℕ, zero, suc, _^_, _≤_, _<_}
 use mathlib.Core.Path.{_≡_, refl, sym, ap, _∙_}
-use mathlib.Core.Bool.{Bool, true, false}
+use mathlib.Core.Bool.{true, false}
 use mathlib.Core.List.{List}
 use mathlib.Core.Logic.{⊎-elim}
 use native.Mathlib.Nat.{eq-or-lt-of-le, le-of-suc-le-suc}
 use native.Mathlib.Omega.{arith}
 use lib.IntN.{ℤ}
-use lib.ListN.{length, getD}
+use lib.ListN.{getD}
 use Rattle.calls.specs.MemoryLaws.{overwrite-at}
 use Rattle.sweeps.specs.Iteration.{iteration, start}
 use Rattle.sweeps.specs.IterationLaws.{WorkspaceValid, valid-iterations, length-iterations}
@@ -20,10 +21,21 @@ use Rattle.criteria.specs.Private.{MemoryInRange}
 use Rattle.settings.specs.declared.Settings.{Settings}
 use Rattle.settings.specs.Slices.{Slices, lengthsOf}
 use Rattle.settings.specs.SlicesLaws.{OutputsFit}
-use Rattle.decoder.specs.Decoder.{ruleOf, softAt, markAt, codedSoftAt, codedMarkAt, criterionOf, after, Ending, endingOf, ending, outputsOf}
+use Rattle.decoder.specs.Decoder.{ruleOf, softAt, markAt, codedMarkAt, criterionOf, after, ending}
 use Rattle.decoder.specs.EndingLaws.{ending-found, ending-last}
 use Rattle.decoder.specs.OutputLaws.{outputs-again, outputs-lengths}
-use Rattle.decoder.specs.Run.{workAfter, softAfter, codedSoftAfter, rememberedAfter, holdsAfter, endOf, limitOf, slicesAfter, OneIteration, RunGoesOn}
+use Rattle.decoder.specs.Run.{
+  workAfter,
+  softAfter,
+  codedSoftAfter,
+  rememberedAfter,
+  holdsAfter,
+  endOf,
+  limitOf,
+  slicesAfter,
+  OneIteration,
+  RunGoesOn,
+}
 
 -- ---- the start
 
@@ -36,12 +48,14 @@ run-begins s mask w = record {
 
 -- ---- t iterations
 
-module _ {s : Settings} {mask : List ℕ} {w : List ℤ} {t : ℕ} {memory : Memory} {now : List ℤ} (h : RunGoesOn s mask w t memory now) where
+module _ {s : Settings} {mask : List ℕ} {w : List ℤ} {t : ℕ} {memory : Memory} {now : List ℤ}
+    (h : RunGoesOn s mask w t memory now) where
   pub run-valid : WorkspaceValid (ruleOf s) (s .m) w → WorkspaceValid (ruleOf s) (s .m) now
   run-valid valid = rw (h .work-is) (valid-iterations valid t)
 
   pub run-memory : t < 1000 → MemoryInRange memory
-  run-memory few = memory-in-range (s .m) (criterionOf s) mask (softAfter s mask w) (codedSoftAfter s mask w) t (h .memory-is) few
+  run-memory few =
+      memory-in-range (s .m) (criterionOf s) mask (softAfter s mask w) (codedSoftAfter s mask w) t (h .memory-is) few
 
   -- at the limit, which is no 0
   pub run-ends-last : t ≡ s .limit → 1 ≤ t → endOf s mask w ≡ limitOf s
@@ -63,13 +77,16 @@ module _ {s : Settings} {mask : List ℕ} {w : List ℤ} {t : ℕ} {memory : Mem
   step-memory : r .memory ≡ rememberedAfter s mask w (suc t)
   step-memory =
       step .memory-is
-      ∙ memory-next (s .m) (criterionOf s) mask (softAfter s mask w) (codedSoftAfter s mask w) t (λ i. getD (before .mark) i 0) marks-before
-      (softAt s mask (after .work)) (λ i l. ap (λ (v : List ℤ). softAt s mask v i) step-work) (codedMarkAt s (after .work)) (h .memory-is)
+      ∙ memory-next (s .m) (criterionOf s) mask (softAfter s mask w) (codedSoftAfter s mask w) t
+      (λ i. getD (before .mark) i 0) marks-before
+      (softAt s mask (after .work)) (λ i l. ap (λ (v : List ℤ). softAt s mask v i) step-work)
+      (codedMarkAt s (after .work)) (h .memory-is)
 
   pub step-holds : r .holds ≡ holdsAfter s mask w (suc t)
   step-holds =
       step .holds-is
-      ∙ holds-next (s .m) (criterionOf s) mask (softAfter s mask w) (codedSoftAfter s mask w) t (λ i. getD (before .mark) i 0) marks-before
+      ∙ holds-next (s .m) (criterionOf s) mask (softAfter s mask w) (codedSoftAfter s mask w) t
+      (λ i. getD (before .mark) i 0) marks-before
       (softAt s mask (after .work)) (λ i l. ap (λ (v : List ℤ). softAt s mask v i) step-work)
       (codedMarkAt s (after .work)) (λ i l. ap (λ (v : List ℤ). codedMarkAt s v i) step-work) step-memory
 
@@ -78,33 +95,41 @@ module _ {s : Settings} {mask : List ℕ} {w : List ℤ} {t : ℕ} {memory : Mem
   run-next fails = record {
     work-is = step-work;
     memory-is = step-memory;
-    none = λ j p q. ⊎-elim (λ e. rw e (sym step-holds ∙ fails)) (λ l. h .none j p (le-of-suc-le-suc l)) (eq-or-lt-of-le q);
+    none =
+        λ j p q. ⊎-elim (λ e. rw e (sym step-holds ∙ fails)) (λ l. h .none j p (le-of-suc-le-suc l)) (eq-or-lt-of-le q);
   }
 
   -- it holds: the run has ended
   pub run-ends : r .holds ≡ true → suc t ≤ s .limit → endOf s mask w ≡ record { iteration = suc t; reason = 1 }
   run-ends ok high =
-      ending-found (holdsAfter s mask w) (suc t) (s .limit) (omega arith) high (λ j p q. h .none j p (le-of-suc-le-suc q)) (sym step-holds ∙ ok)
+      ending-found (holdsAfter s mask w) (suc t) (s .limit) (omega arith) high
+      (λ j p q. h .none j p (le-of-suc-le-suc q)) (sym step-holds ∙ ok)
 
 -- criterion 0 holds at no iteration
-pub never-ends : (s : Settings) (mask : List ℕ) (w : List ℤ) → s .criterion ≡ 0 → 1 ≤ s .limit → endOf s mask w ≡ limitOf s
+pub never-ends : (s : Settings) (mask : List ℕ) (w : List ℤ) → s .criterion ≡ 0 → 1 ≤ s .limit
+    → endOf s mask w ≡ limitOf s
 never-ends s mask w never some = ending-last (holdsAfter s mask w) (s .limit) some (λ j p q. rw never)
 
 -- ---- the slices of a run that keeps its outputs
 
 module _ (s : Settings) (mask : List ℕ) where
   -- one step more
-  pub slices-next : (t : ℕ) (first : Slices) {before after : Slices} {memory : Memory} {r : Progress} → before ≡ slicesAfter s mask t first
+  pub slices-next : (t : ℕ) (first : Slices) {before after : Slices} {memory : Memory} {r : Progress}
+      → before ≡ slicesAfter s mask t first
       → OneIteration s memory mask before after r → after ≡ slicesAfter s mask (suc t) first
   slices-next zero first is step = step .slices ∙ rw is
   slices-next (suc t) first is step =
-      step .slices ∙ rw is (outputs-again s mask (workAfter s mask (first .work) (suc (suc t))) (workAfter s mask (first .work) (suc t)) first)
+      step .slices
+      ∙ rw is
+      (outputs-again s mask (workAfter s mask (first .work) (suc (suc t))) (workAfter s mask (first .work) (suc t))
+      first)
 
   -- their lengths stay
   pub slices-lengths : (t : ℕ) (first : Slices) → lengthsOf (slicesAfter s mask t first) ≡ lengthsOf first
   slices-lengths zero first = refl
   slices-lengths (suc t) first =
-      outputs-lengths s mask (workAfter s mask (first .work) (suc t)) first (length-iterations (ruleOf s) (s .m) (suc t) (first .work))
+      outputs-lengths s mask (workAfter s mask (first .work) (suc t)) first
+      (length-iterations (ruleOf s) (s .m) (suc t) (first .work))
 
   -- the mark slice holds the marks of the workspace
   pub slices-marks : (t : ℕ) (first : Slices) → OutputsFit (2 ^ s .m) first → 1 ≤ t → (i : ℕ) → i < 2 ^ s .m

@@ -1,6 +1,6 @@
 // The decoder: LLRs become soft outputs, marks, an iteration and a reason.
-// It sees the promises of `settings`, `sweeps`, `criteria` and `message`. It promises that the answer, the four outputs and the workspace equal
-// document 01's definitions, that nothing else is written, and nothing at all after a refusal.
+// It sees the promises of `settings`, `sweeps`, `criteria` and `message`. It promises that the answer, the four outputs
+// and the workspace equal document 01's definitions, that nothing else is written, and nothing at all after a refusal.
 ghost use mathlib.Core.Path.{_≡_};
 ghost use Prim.Native.Nat.{_<_, _≤_, _^_};
 ghost use lib.IntN.{natAbs};
@@ -14,7 +14,17 @@ ghost use Rattle.criteria.specs.Private.{MemoryInRange};
 ghost use Rattle.settings.specs.Settings.{largestLimit};
 ghost use Rattle.settings.specs.Slices.{slices};
 ghost use Rattle.settings.specs.SlicesLaws.{OutputsFit};
-ghost use Rattle.decoder.specs.Decoder.{reasonNumber, ruleOf, softOf, softAt, markAt, codedSoftAt, codedMarkAt, criterionOf, outputsOf, Decoded};
+ghost use Rattle.decoder.specs.Decoder.{
+  reasonNumber,
+  ruleOf,
+  softOf,
+  softAt,
+  codedSoftAt,
+  codedMarkAt,
+  criterionOf,
+  outputsOf,
+  Decoded,
+};
 ghost use Rattle.decoder.specs.Run.{OneIteration, limitOf, endOf, EndsAs};
 use calls::Answer;
 use calls::Refusal;
@@ -79,7 +89,8 @@ fn criterion_of(settings: Settings) -> Criterion
     Criterion::Steady(operand)
 }
 
-// The soft output of a position from its mask byte and the messages of both directions. The mask byte makes no difference yet.
+// The soft output of a position from its mask byte and the messages of both directions. The
+// mask byte makes no difference yet.
 fn soft_output(rule: MinSum, _kind: u8, left: i16, right: i16) -> i16
     requires { ⌜ RuleInRange rule ⌝ }
     requires { ⌜ (natAbs left ≤ rule .ceiling) × (natAbs right ≤ rule .ceiling) ⌝ }
@@ -160,7 +171,8 @@ pub fn outputs(
 )
     requires { ⌜ WorkspaceValid (ruleOf settings) (settings .m) (now work) ⌝ }
     requires { ⌜ 2 ^ settings .m ≤ length (now mask) ⌝ }
-    requires { ⌜ OutputsFit (2 ^ settings .m) (slices (now soft) (now mark) (now «coded_soft») (now «coded_mark») (now work)) ⌝ }
+    requires { ⌜ OutputsFit (2 ^ settings .m)
+        (slices (now soft) (now mark) (now «coded_soft») (now «coded_mark») (now work)) ⌝ }
     ensures { λ _. ⌜ slices (now (soft .exit)) (now (mark .exit)) (now («coded_soft» .exit)) (now («coded_mark» .exit))
         (now (work .entry))
         ≡ outputsOf settings (now (mask .entry)) (now (work .entry))
@@ -199,8 +211,9 @@ fn iterate(
     coded_outputs(settings, work, coded_soft, coded_mark);
 }
 
-// One iteration, its outputs, and the criterion. Unless this is the first iteration, `mark` holds the marks of the workspace as it
-// stands, which are those of the iteration before: `outputs` writes them, so that who makes one step at a time keeps the workspace alone.
+// One iteration, its outputs, and the criterion. Unless this is the first iteration, `mark` holds the marks of the
+// workspace as it stands, which are those of the iteration before: `outputs` writes them, so that who makes one step at
+// a time keeps the workspace alone.
 pub fn step(
     settings: Settings,
     memory: Memory,
@@ -214,7 +227,8 @@ pub fn step(
     requires { ⌜ WorkspaceValid (ruleOf settings) (settings .m) (now work) ⌝ }
     requires { ⌜ (settings .operand ≤ largestCeiling) × MemoryInRange memory ⌝ }
     requires { ⌜ 2 ^ settings .m ≤ length (now mask) ⌝ }
-    requires { ⌜ OutputsFit (2 ^ settings .m) (slices (now soft) (now mark) (now «coded_soft») (now «coded_mark») (now work)) ⌝ }
+    requires { ⌜ OutputsFit (2 ^ settings .m)
+        (slices (now soft) (now mark) (now «coded_soft») (now «coded_mark») (now work)) ⌝ }
     ensures { λ r. ⌜ OneIteration settings memory (now (mask .entry))
         (slices (now (soft .entry)) (now (mark .entry))
         (now («coded_soft» .entry)) (now («coded_mark» .entry)) (now (work .entry)))
@@ -248,7 +262,8 @@ fn run(
     requires { ⌜ WorkspaceValid (ruleOf settings) (settings .m) (now work) ⌝ }
     requires { ⌜ (settings .operand ≤ largestCeiling) × (1 ≤ settings .limit) × (settings .limit ≤ largestLimit) ⌝ }
     requires { ⌜ 2 ^ settings .m ≤ length (now mask) ⌝ }
-    requires { ⌜ OutputsFit (2 ^ settings .m) (slices (now soft) (now mark) (now «coded_soft») (now «coded_mark») (now work)) ⌝ }
+    requires { ⌜ OutputsFit (2 ^ settings .m)
+        (slices (now soft) (now mark) (now «coded_soft») (now «coded_mark») (now work)) ⌝ }
     ensures { λ r. ⌜ EndsAs settings (now (mask .entry)) (endOf settings (now (mask .entry)) (now (work .entry)))
         (slices (now (soft .entry)) (now (mark .entry))
         (now («coded_soft» .entry)) (now («coded_mark» .entry)) (now (work .entry)))
@@ -305,7 +320,8 @@ fn run_to_limit(
 ) -> Outcome
     requires { ⌜ WorkspaceValid (ruleOf settings) (settings .m) (now work) ⌝ }
     requires { ⌜ 2 ^ settings .m ≤ length (now mask) ⌝ }
-    requires { ⌜ OutputsFit (2 ^ settings .m) (slices (now soft) (now mark) (now «coded_soft») (now «coded_mark») (now work)) ⌝ }
+    requires { ⌜ OutputsFit (2 ^ settings .m)
+        (slices (now soft) (now mark) (now «coded_soft») (now «coded_mark») (now work)) ⌝ }
     ensures { λ r. ⌜ EndsAs settings (now (mask .entry)) (limitOf settings)
         (slices (now (soft .entry)) (now (mark .entry))
         (now («coded_soft» .entry)) (now («coded_mark» .entry)) (now (work .entry)))

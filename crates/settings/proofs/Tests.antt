@@ -24,10 +24,20 @@ grouped false information within = refl
 module _ (code : Code) (C : ℕ) (mask : List ℕ) (llr : List ℤ) where
   -- where m is in its range and the slices are long enough, the code's tests are 8 and 9
   code-tests : 1 ≤ code .m → code .m ≤ largestM → 2 ^ code .m ≤ length mask → 2 ^ code .m ≤ length llr
-      → codeNumber code mask (length llr) ≡ check (maskAccepted (2 ^ code .m) mask) 8 (check (leb 1 (informationCount mask (2 ^ code .m))) 9 0)
+      → codeNumber code mask (length llr)
+      ≡ check (maskAccepted (2 ^ code .m) mask) 8 (check (leb 1 (informationCount mask (2 ^ code .m))) 9 0)
   code-tests some small long wide =
-      simp (le-leb 1 (code .m) some, le-leb (code .m) largestM small, le-leb (2 ^ code .m) (length mask) long, le-leb (2 ^ code .m) (length llr) wide)
+      simp (
+        le-leb 1 (code .m) some,
+        le-leb (code .m) largestM small,
+        le-leb (2 ^ code .m) (length mask) long,
+        le-leb (2 ^ code .m) (length llr) wide,
+      )
 
   pub block-tests : 1 ≤ code .m → code .m ≤ largestM → 2 ^ code .m ≤ length mask → 2 ^ code .m ≤ length llr
-      → blockNumber (code .m) C mask llr ≡ firstRefusal (codeNumber code mask (length llr)) (check (withinCeiling (2 ^ code .m) C llr) 10 0)
-  block-tests some small long wide = rw (code-tests some small long wide) (grouped (maskAccepted (2 ^ code .m) mask) (leb 1 (informationCount mask (2 ^ code .m))) (withinCeiling (2 ^ code .m) C llr))
+      → blockNumber (code .m) C mask llr
+      ≡ firstRefusal (codeNumber code mask (length llr)) (check (withinCeiling (2 ^ code .m) C llr) 10 0)
+  block-tests some small long wide =
+      rw (code-tests some small long wide)
+      (grouped (maskAccepted (2 ^ code .m) mask) (leb 1 (informationCount mask (2 ^ code .m)))
+      (withinCeiling (2 ^ code .m) C llr))

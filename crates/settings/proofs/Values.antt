@@ -19,6 +19,7 @@ lies-within (suc C) (pos n) = refl
 lies-within zero (negsuc n) = sym (lt-leb (suc n) 0 (omega arith))
 lies-within (suc C) (negsuc n) = simp (and-true, compare·suc-suc)
 
-pub within-next : {flag found : Bool} (i C : ℕ) (llr : List ℤ) → flag ≡ withinCeiling i C llr → found ≡ leb (natAbs (getD llr i (pos 0))) C
+pub within-next : {flag found : Bool} (i C : ℕ) (llr : List ℤ) → flag ≡ withinCeiling i C llr
+    → found ≡ leb (natAbs (getD llr i (pos 0))) C
     → flag && found ≡ withinCeiling (i + 1) C llr
 within-next i C llr e f = rw (e, f, add-one i)

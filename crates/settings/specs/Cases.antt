@@ -78,7 +78,8 @@ pub operand-steady-marks : map (of-operand 3) (0 ∷ 1 ∷ 8 ∷ 9 ∷ []) ≡ 6
 operand-steady-marks = refl
 
 -- 7: each slice one short
-pub short-slices : map of-lengths (exact ∷ lengths 1 2 2 2 8 ∷ lengths 2 1 2 2 8 ∷ lengths 2 2 1 2 8 ∷ lengths 2 2 2 1 8 ∷ lengths 2 2 2 2 7 ∷ [])
+pub short-slices : map of-lengths
+    (exact ∷ lengths 1 2 2 2 8 ∷ lengths 2 1 2 2 8 ∷ lengths 2 2 1 2 8 ∷ lengths 2 2 2 1 8 ∷ lengths 2 2 2 2 7 ∷ [])
     ≡ 0 ∷ 7 ∷ 7 ∷ 7 ∷ 7 ∷ 7 ∷ []
 short-slices = refl
 
@@ -105,12 +106,14 @@ pub last-llr : map (λ z. of-llr (pos 0 ∷ z ∷ [])) sizes ≡ 0 ∷ 0 ∷ 10 
 last-llr = refl
 
 -- what stands behind the two positions is not read
-pub behind : decodeNumber (set 1 31 16 10 1 0) (1 ∷ 0 ∷ 2 ∷ []) (pos 1 ∷ negsuc 0 ∷ negsuc 32767 ∷ []) (lengths 3 3 3 3 9) ≡ 0
+pub behind : decodeNumber (set 1 31 16 10 1 0) (1 ∷ 0 ∷ 2 ∷ []) (pos 1 ∷ negsuc 0 ∷ negsuc 32767 ∷ [])
+    (lengths 3 3 3 3 9) ≡ 0
 behind = refl
 
 -- several at once: the lowest. Each line mends what the line before was refused for
 pub lowest : map of-settings (
-    set 11 0 0 0 4 9 ∷ set 1 0 0 0 4 9 ∷ set 1 31 0 0 4 9 ∷ set 1 31 16 0 4 9 ∷ set 1 31 16 10 4 9 ∷ set 1 31 16 10 3 9 ∷ []
+    set 11 0 0 0 4 9 ∷ set 1 0 0 0 4 9 ∷ set 1 31 0 0 4 9 ∷ set 1 31 16 0 4 9 ∷ set 1 31 16 10 4 9
+    ∷ set 1 31 16 10 3 9 ∷ []
     ) ≡ 1 ∷ 2 ∷ 3 ∷ 4 ∷ 5 ∷ 6 ∷ []
 lowest = refl
 

@@ -1,9 +1,9 @@
--- Laws of the decoder's tests: what an accepted call tells of what it was handed, and that the tests read no sign of an LLR.
-use Prim.Native.Nat.{ℕ, zero, suc, _+_, _*_, _^_, _≤_, _<_}
-use mathlib.Core.Path.{_≡_, refl, ap, _∙_}
+-- Laws of the decoder's tests: what an accepted call tells of what it was handed, and that
+-- the tests read no sign of an LLR.
+use Prim.Native.Nat.{ℕ, _+_, _*_, _^_, _≤_, _<_}
+use mathlib.Core.Path.{_≡_, ap, _∙_}
 use mathlib.Core.Bool.{Bool, true}
 use mathlib.Core.List.{List}
-use native.Mathlib.Omega.{arith}
 use lib.Dec.{leb}
 use lib.IntN.{ℤ, pos, natAbs}
 use lib.ListN.{length, getD}
@@ -28,8 +28,10 @@ use Rattle.settings.specs.Settings.{
 
 -- ---- an accepted call
 
-pub within-at : (n C : ℕ) (llr : List ℤ) → withinCeiling n C llr ≡ true → (i : ℕ) → i < n → natAbs (getD llr i (pos 0)) ≤ C
-within-at n C llr h i l = leb-true (natAbs (getD llr i (pos 0))) C (every-at n i (λ i. leb (natAbs (getD llr i (pos 0))) C) h l)
+pub within-at : (n C : ℕ) (llr : List ℤ) → withinCeiling n C llr ≡ true → (i : ℕ) → i < n
+    → natAbs (getD llr i (pos 0)) ≤ C
+within-at n C llr h i l =
+    leb-true (natAbs (getD llr i (pos 0))) C (every-at n i (λ i. leb (natAbs (getD llr i (pos 0))) C) h l)
 
 pub record SettingsAccepted (s : Settings) : Type 0 where
   pub m-some : 1 ≤ s .m
@@ -135,7 +137,8 @@ pub within-flipped : (llr llr′ : List ℤ) (n C : ℕ) (b : ℕ → Bool)
 within-flipped llr llr′ n C b h =
     every-same n _ _ (λ i l. ap (λ (k : ℕ). leb k C) (ap natAbs (h i l) ∙ size-flipped (b i) (getD llr i (pos 0))))
 
-pub number-flipped : (s : Settings) (mask : List ℕ) (llr llr′ : List ℤ) (lengths : Lengths) (b : ℕ → Bool) → length llr′ ≡ length llr
+pub number-flipped : (s : Settings) (mask : List ℕ) (llr llr′ : List ℤ) (lengths : Lengths) (b : ℕ → Bool)
+    → length llr′ ≡ length llr
     → ((i : ℕ) → i < 2 ^ s .m → getD llr′ i (pos 0) ≡ flipped (b i) (getD llr i (pos 0)))
     → decodeNumber s mask llr′ lengths ≡ decodeNumber s mask llr lengths
 number-flipped s mask llr llr′ lengths b long h = rw (long, within-flipped llr llr′ (2 ^ s .m) (s .ceiling) b h)

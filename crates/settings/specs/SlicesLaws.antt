@@ -7,7 +7,8 @@ use lib.ListN.{length}
 use Rattle.settings.specs.Slices.{Slices, slices, lengthsOf}
 use Rattle.settings.specs.SettingsLaws.{SlicesAccepted}
 
-pub slices-same : {soft soft′ : List ℤ} {mark mark′ : List ℕ} {codedSoft codedSoft′ : List ℤ} {codedMark codedMark′ : List ℕ}
+pub slices-same : {soft soft′ : List ℤ} {mark mark′ : List ℕ} {codedSoft codedSoft′ : List ℤ}
+    {codedMark codedMark′ : List ℕ}
     {work work′ : List ℤ} → soft ≡ soft′ → mark ≡ mark′ → codedSoft ≡ codedSoft′ → codedMark ≡ codedMark′ → work ≡ work′
     → slices soft mark codedSoft codedMark work ≡ slices soft′ mark′ codedSoft′ codedMark′ work′
 slices-same a b c d e i = slices (a i) (b i) (c i) (d i) (e i)
@@ -28,5 +29,6 @@ outputs-fit l a = record {
 }
 
 -- whatever the workspace
-pub fit-with : {N : ℕ} {l : Slices} (w : List ℤ) → OutputsFit N l → OutputsFit N (slices (l .soft) (l .mark) (l .codedSoft) (l .codedMark) w)
+pub fit-with : {N : ℕ} {l : Slices} (w : List ℤ) → OutputsFit N l
+    → OutputsFit N (slices (l .soft) (l .mark) (l .codedSoft) (l .codedMark) w)
 fit-with w h = record { soft = h .soft; mark = h .mark; codedSoft = h .codedSoft; codedMark = h .codedMark }

@@ -1,8 +1,8 @@
 -- The boundary values of 15. Computed facts.
 use Prim.Native.Nat.{ℕ}
 use mathlib.Core.Path.{_≡_, refl}
-use mathlib.Core.List.{List, [], _∷_, map}
-use Rattle.decoder.specs.Decoder.{Result, refused, ended}
+use mathlib.Core.List.{[], _∷_, map}
+use Rattle.decoder.specs.Decoder.{refused, ended}
 use Rattle.tally.specs.declared.Tally.{Tally}
 use Rattle.tally.specs.Tally.{tallyNumber, counted}
 use Rattle.tally.specs.Runs.{none, others, countsOver}
@@ -10,7 +10,13 @@ use Rattle.tally.specs.Runs.{none, others, countsOver}
 -- blocks, endings by reason 1 and by reason 2, refusals, iterations
 abbrev tally : ℕ → ℕ → ℕ → ℕ → ℕ → Tally
 tally blocks by-criterion by-limit refusals iterations =
-    record { blocks = blocks; «by_criterion» = by-criterion; «by_limit» = by-limit; refusals = refusals; iterations = iterations }
+    record {
+      blocks = blocks;
+      «by_criterion» = by-criterion;
+      «by_limit» = by-limit;
+      refusals = refusals;
+      iterations = iterations;
+    }
 
 -- five zeros, and the last block
 pub blocks : map tallyNumber (none ∷ tally 999999 0 0 999999 0 ∷ tally 1000000 0 0 1000000 0 ∷ []) ≡ 0 ∷ 0 ∷ 15 ∷ []
@@ -35,7 +41,8 @@ largest = refl
 pub past-32-bits : map tallyNumber (tally 0 4294967295 1 0 0 ∷ tally 4 4294967295 0 5 4294967295 ∷ []) ≡ 15 ∷ 15 ∷ []
 past-32-bits = refl
 
--- an ending by either reason and a refusal, counted one after the other; a refusal with 15 among the answers counts nowhere
+-- an ending by either reason and a refusal, counted one after the other; a refusal with 15
+-- among the answers counts nowhere
 pub counted-in-turn : counted (counted (counted none (ended 7 1)) (refused 10)) (ended 200 2) ≡ tally 3 1 1 1 207
 counted-in-turn = refl
 

@@ -1,4 +1,5 @@
--- How the code counts: the tally of one answer, added to the tally so far. A reader of the contract of `decode` needs none of it.
+-- How the code counts: the tally of one answer, added to the tally so far. A reader of the
+-- contract of `decode` needs none of it.
 use Prim.Native.Nat.{_+_}
 use mathlib.Core.Bool.{cond}
 use lib.Dec.{eqb}
@@ -9,7 +10,13 @@ use Rattle.tally.specs.declared.Tally.{Tally}
 abbrev pub single : Result → Tally
 single (refused number) = record { blocks = 1; «by_criterion» = 0; «by_limit» = 0; refusals = 1; iterations = 0 }
 single (ended iteration reason) =
-    record { blocks = 1; «by_criterion» = cond (eqb reason 1) 1 0; «by_limit» = cond (eqb reason 1) 0 1; refusals = 0; iterations = iteration }
+    record {
+      blocks = 1;
+      «by_criterion» = cond (eqb reason 1) 1 0;
+      «by_limit» = cond (eqb reason 1) 0 1;
+      refusals = 0;
+      iterations = iteration;
+    }
 
 -- two tallies added, number by number
 abbrev pub plus : Tally → Tally → Tally

@@ -1,4 +1,5 @@
--- A run of tallied calls, each handed the tally that the one before gave back, and the counts over its answers. Definitions only.
+-- A run of tallied calls, each handed the tally that the one before gave back, and the counts
+-- over its answers. Definitions only.
 use Prim.Native.Nat.{ℕ, _+_}
 use mathlib.Core.Bool.{Bool, true, false, not, cond}
 use mathlib.Core.List.{List, [], _∷_}

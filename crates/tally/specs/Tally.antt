@@ -24,7 +24,8 @@ mostBlocks = 1000000
 abbrev pub mostIterations : ℕ
 mostIterations = 200
 
--- 15: blocks at or above 1,000,000; or blocks not the sum of endings and refusals; or iterations below the endings or above 200 times them
+-- 15: blocks at or above 1,000,000; or blocks not the sum of endings and refusals; or iterations below
+-- the endings or above 200 times them
 abbrev pub tallyNumber : Tally → ℕ
 tallyNumber t =
     check (ltb (t .blocks) mostBlocks) 15
@@ -61,7 +62,8 @@ tallyBy (suc number) t r = t
 
 -- ---- the promise of a tallied call: answer, tally, and the lent slices afterwards
 
-pub record TalliedDecode (t : Tally) (s : Settings) (mask : List ℕ) (llr : List ℤ) (before after : Slices) (r : Tallied) : Type 0 where
+pub record TalliedDecode (t : Tally) (s : Settings) (mask : List ℕ) (llr : List ℤ) (before after : Slices)
+    (r : Tallied) : Type 0 where
   pub answer : resultOf (r .outcome) ≡ answerBy (tallyNumber t) (decodeResult s mask llr before)
   pub tally-is : r .tally ≡ tallyBy (tallyNumber t) t (decodeResult s mask llr before)
   pub slices : after ≡ unlessRefused (tallyNumber t) (decodeSlices s mask llr before) before

@@ -1,4 +1,5 @@
--- Laws of the tally: what 15 lets pass, and that after any run of calls each number of the tally is the count over them.
+-- Laws of the tally: what 15 lets pass, and that after any run of calls each number of
+-- the tally is the count over them.
 use Prim.Native.Nat.{ℕ, zero, suc, _+_, _*_, _≤_, _<_}
 use mathlib.Core.Path.{_≡_, refl, sym, ap, _∙_}
 use mathlib.Core.Bool.{Bool, true, false, cond}
@@ -29,7 +30,8 @@ pub usable : (t : Tally) → tallyNumber t ≡ 0 → Usable t
 usable t h =
     let blocks = check-passed _ 14 _ h in
     let sum = check-passed _ 14 _ (blocks .1) in
-    let iterations = between-passed (endings t) (mostIterations * endings t) (t .iterations) (check-passed _ 14 _ (sum .1) .0) in
+    let iterations =
+    between-passed (endings t) (mostIterations * endings t) (t .iterations) (check-passed _ 14 _ (sum .1) .0) in
     record {
       blocks-lt = ltb-true (t .blocks) mostBlocks (blocks .0);
       blocks-sum = eqb-true (t .blocks) (endings t + t .refusals) (sum .0);
@@ -47,7 +49,8 @@ usable-number t u =
     )
 
 -- the number is 0 or 15
-three-tests : (a b c : Bool) → (check a 15 (check b 15 (check c 15 0)) ≡ 0 → ⊥) → check a 15 (check b 15 (check c 15 0)) ≡ 15
+three-tests : (a b c : Bool) → (check a 15 (check b 15 (check c 15 0)) ≡ 0 → ⊥)
+    → check a 15 (check b 15 (check c 15 0)) ≡ 15
 three-tests true true true h = absurd (h refl)
 three-tests true true false h = refl
 three-tests true false c h = refl
@@ -67,16 +70,26 @@ unusable-number t h = refused-15 t (λ e. h (usable t e))
 -- ---- one block more
 
 -- two tallies are equal by their numbers
-same : {t u : Tally} → t .blocks ≡ u .blocks → t .«by_criterion» ≡ u .«by_criterion» → t .«by_limit» ≡ u .«by_limit» → t .refusals ≡ u .refusals
+same : {t u : Tally} → t .blocks ≡ u .blocks → t .«by_criterion» ≡ u .«by_criterion» → t .«by_limit» ≡ u .«by_limit»
+    → t .refusals ≡ u .refusals
     → t .iterations ≡ u .iterations → t ≡ u
 same blocks criterion limit refusals iterations i =
-    record { blocks = blocks i; «by_criterion» = criterion i; «by_limit» = limit i; refusals = refusals i; iterations = iterations i }
+    record {
+      blocks = blocks i;
+      «by_criterion» = criterion i;
+      «by_limit» = limit i;
+      refusals = refusals i;
+      iterations = iterations i;
+    }
 
 pub single-usable : (r : Result) → DecoderAnswer r → Usable (single r)
-single-usable (refused number) d = record { blocks-lt = omega arith; blocks-sum = refl; iterations-low = omega arith; iterations-high = omega arith }
+single-usable (refused number) d =
+    record { blocks-lt = omega arith; blocks-sum = refl; iterations-low = omega arith; iterations-high = omega arith }
 single-usable (ended iteration zero) d = absurd (omega arith)
-single-usable (ended iteration (suc zero)) d = record { blocks-lt = omega arith; blocks-sum = refl; iterations-low = omega arith; iterations-high = omega arith }
-single-usable (ended iteration (suc (suc zero))) d = record { blocks-lt = omega arith; blocks-sum = refl; iterations-low = omega arith; iterations-high = omega arith }
+single-usable (ended iteration (suc zero)) d =
+    record { blocks-lt = omega arith; blocks-sum = refl; iterations-low = omega arith; iterations-high = omega arith }
+single-usable (ended iteration (suc (suc zero))) d =
+    record { blocks-lt = omega arith; blocks-sum = refl; iterations-low = omega arith; iterations-high = omega arith }
 single-usable (ended iteration (suc (suc (suc n)))) d = absurd (omega arith)
 
 plus-usable : {t u : Tally} → Usable t → Usable u → t .blocks + u .blocks < mostBlocks → Usable (plus t u)
@@ -98,18 +111,22 @@ single-block (ended iteration reason) = refl
 decoded-answer : (c : Call) → DecoderAnswer (decoded c)
 decoded-answer c = decoder-answer (c .settings) (c .mask) (c .llr) (c .slices)
 
--- 15, "iterations below the endings or above 200 times them", and the sum: they stay so when the answer of a call is counted, up to the last
--- block that 15 lets pass
-pub counted-usable : (t : Tally) (c : Call) → tallyNumber t ≡ 0 → t .blocks + 1 < mostBlocks → tallyNumber (counted t (decoded c)) ≡ 0
+-- 15, "iterations below the endings or above 200 times them", and the sum: they stay so when the answer of a call is
+-- counted, up to the last block that 15 lets pass
+pub counted-usable : (t : Tally) (c : Call) → tallyNumber t ≡ 0 → t .blocks + 1 < mostBlocks
+    → tallyNumber (counted t (decoded c)) ≡ 0
 counted-usable t c h few =
     let d = decoded-answer c in
     ap tallyNumber (counted-plus t (decoded c) d)
-    ∙ usable-number (plus t (single (decoded c))) (plus-usable (usable t h) (single-usable (decoded c) d) (rw (single-block (decoded c)) few))
+    ∙ usable-number (plus t (single (decoded c)))
+    (plus-usable (usable t h) (single-usable (decoded c) d) (rw (single-block (decoded c)) few))
 
 blocks-counted : (t : Tally) (c : Call) → counted t (decoded c) .blocks ≡ t .blocks + 1
-blocks-counted t c = ap (λ (u : Tally). u .blocks) (counted-plus t (decoded c) (decoded-answer c)) ∙ rw (single-block (decoded c))
+blocks-counted t c =
+    ap (λ (u : Tally). u .blocks) (counted-plus t (decoded c) (decoded-answer c)) ∙ rw (single-block (decoded c))
 
-usable-after : (calls : List Call) (t : Tally) → tallyNumber t ≡ 0 → t .blocks + length calls < mostBlocks → tallyNumber (tallyAfter t calls) ≡ 0
+usable-after : (calls : List Call) (t : Tally) → tallyNumber t ≡ 0 → t .blocks + length calls < mostBlocks
+    → tallyNumber (tallyAfter t calls) ≡ 0
 usable-after [] t h few = h
 usable-after (c ∷ calls) t h few =
     let next = counted-usable t c h (omega arith) in
@@ -120,13 +137,15 @@ usable-after (c ∷ calls) t h few =
 pub run-usable : (calls : List Call) → length calls < mostBlocks → tallyNumber (tallyAfter none calls) ≡ 0
 run-usable calls few = usable-after calls none refl (omega arith)
 
-answered-from : (calls : List Call) (t : Tally) → tallyNumber t ≡ 0 → t .blocks + length calls ≤ mostBlocks → answers t calls ≡ map decoded calls
+answered-from : (calls : List Call) (t : Tally) → tallyNumber t ≡ 0 → t .blocks + length calls ≤ mostBlocks
+    → answers t calls ≡ map decoded calls
 answered-from [] t h few = refl
 answered-from (c ∷ []) t h few = rw h
 answered-from (c ∷ d ∷ calls) t h few =
     let next = counted-usable t c h (omega arith) in
     ap (λ (number : ℕ). answerBy number (decoded c) ∷ answers (tallyBy number t (decoded c)) (d ∷ calls)) h
-    ∙ ap (λ (rs : List Result). decoded c ∷ rs) (answered-from (d ∷ calls) (counted t (decoded c)) next (omega (arith, blocks-counted t c)))
+    ∙ ap (λ (rs : List Result). decoded c ∷ rs)
+    (answered-from (d ∷ calls) (counted t (decoded c)) next (omega (arith, blocks-counted t c)))
 
 -- in a run of up to 1,000,000 calls from five zeros none is refused with 15: each answer is the decoder's
 pub run-answered : (calls : List Call) → length calls ≤ mostBlocks → answers none calls ≡ map decoded calls
@@ -134,11 +153,14 @@ run-answered calls few = answered-from calls none refl (omega arith)
 
 -- ---- counts
 
-counted-first : (t : Tally) (r : Result) (rs : List Result) → DecoderAnswer r → plus (counted t r) (countsOver rs) ≡ plus t (countsOver (r ∷ rs))
+counted-first : (t : Tally) (r : Result) (rs : List Result) → DecoderAnswer r
+    → plus (counted t r) (countsOver rs) ≡ plus t (countsOver (r ∷ rs))
 counted-first t (refused number) rs d = same (omega arith) (omega arith) (omega arith) (omega arith) (omega arith)
 counted-first t (ended iteration zero) rs d = absurd (omega arith)
-counted-first t (ended iteration (suc zero)) rs d = same (omega arith) (omega arith) (omega arith) (omega arith) (omega arith)
-counted-first t (ended iteration (suc (suc zero))) rs d = same (omega arith) (omega arith) (omega arith) (omega arith) (omega arith)
+counted-first t (ended iteration (suc zero)) rs d =
+    same (omega arith) (omega arith) (omega arith) (omega arith) (omega arith)
+counted-first t (ended iteration (suc (suc zero))) rs d =
+    same (omega arith) (omega arith) (omega arith) (omega arith) (omega arith)
 counted-first t (ended iteration (suc (suc (suc n)))) rs d = absurd (omega arith)
 
 -- the decoder's own answer counts
@@ -158,11 +180,14 @@ counted-after (c ∷ calls) t = by-number (tallyNumber t) refl (λ u. counted-af
         let rest = answers (counted t (decoded c)) calls in
         later (counted t (decoded c))
         ∙ counted-first t (decoded c) (others rest) (decoded-answer c)
-        ∙ ap (λ (test : Bool). plus t (countsOver (cond test (decoded c ∷ others rest) (others rest)))) (sym (answer-counts (decoded c) (decoded-answer c)))
+        ∙ ap (λ (test : Bool). plus t (countsOver (cond test (decoded c ∷ others rest) (others rest))))
+        (sym (answer-counts (decoded c) (decoded-answer c)))
     by-number (suc number) h later =
         later t
-        ∙ ap (λ (n : ℕ). plus t (countsOver (others (refused n ∷ answers t calls)))) (sym (refused-15 t (λ e. omega arith)) ∙ h)
+        ∙ ap (λ (n : ℕ). plus t (countsOver (others (refused n ∷ answers t calls))))
+        (sym (refused-15 t (λ e. omega arith)) ∙ h)
 
 -- "After any run of other calls from five zeros, each number is the count over those calls"
 pub tally-counts : (calls : List Call) → tallyAfter none calls ≡ countsOver (others (answers none calls))
-tally-counts calls = counted-after calls none ∙ same (omega arith) (omega arith) (omega arith) (omega arith) (omega arith)
+tally-counts calls =
+    counted-after calls none ∙ same (omega arith) (omega arith) (omega arith) (omega arith) (omega arith)

@@ -1,6 +1,6 @@
 // A tally of the decoder's endings, and a decode that counts its own.
-// It sees `calls`, `settings` and `decoder`. It promises the decoder's answer and slices, the tally with that answer counted, and, where
-// 15 refuses the tally, that nothing has changed.
+// It sees `calls`, `settings` and `decoder`. It promises the decoder's answer and slices, the tally with that answer
+// counted, and, where 15 refuses the tally, that nothing has changed.
 ghost use mathlib.Core.Path.{_≡_};
 ghost use Rattle.decoder.specs.Decoder.{resultOf};
 ghost use Rattle.settings.specs.Slices.{slices};
@@ -124,7 +124,8 @@ impl Tally {
         self.plus(Tally::single(outcome))
     }
 
-    // A decode whose answer is counted. 15 is tested before everything; the tally then comes back unchanged, and nothing is written.
+    // A decode whose answer is counted. 15 is tested before everything; the tally then comes back
+    // unchanged, and nothing is written.
     pub fn decode(
         self,
         settings: Settings,

@@ -39,11 +39,16 @@ loop-again c =
     let at = c .before .before .before .before in
     let s = at .before .before .before in
     let a = s .args .a .now in
-    let b = s .args .b .now in
-    (omega arith, c .both .ensures ∙ every-next (at .loop .i) (λ j. eqb (getD a j 0) (getD b j 0)) (at .loop .inv .1) refl)
+    let b = s .args .b .now in (
+      omega arith,
+      c .both .ensures
+          ∙ every-next (at .loop .i) (λ j. eqb (getD a j 0) (getD b j 0)) (at .loop .inv .1) refl,
+    )
 
 returns : tie.Need-returns Inv-loop μ-loop
-returns c = let e : c .before .loop .i ≡ c .before .before .before .before .args .n = omega arith in rw e at (c .before .loop .inv .1)
+returns c =
+    let e : c .before .loop .i ≡ c .before .before .before .before .args .n = omega arith in
+    rw e at (c .before .loop .inv .1)
 
 pub equal-spec : {M : Type 1} → statement M
 equal-spec =

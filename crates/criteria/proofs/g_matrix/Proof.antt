@@ -7,35 +7,51 @@ use borrow.Author.Tests.{not-true, not-false}
 use denote.Ref.{now}
 use lib.ListN.{getD, replicate}
 use Rattle.criteria.specs.Criteria.{untied}
-use Rattle.criteria.proofs.Matrix.{tie-fails, coded-tie-fails, room, Holds, copied-holds, holds-bits, coded-long, compared}
+use Rattle.criteria.proofs.Matrix.{
+  tie-fails,
+  coded-tie-fails,
+  room,
+  Holds,
+  copied-holds,
+  holds-bits,
+  coded-long,
+  compared,
+}
 use Rattle.criteria.proofs.g_matrix.Statement.{statement}
 use Rattle.criteria.proofs.g_matrix.Tie as tie
 
+-- the entry, seen from behind the length of a block
+module _ (c : tie.After-power-of-two) where
+  abbrev start : tie.Start
+  start = c .before .before .before
+
+  length-is : c .power-of-two .result ≡ 2 ^ start .args .m
+  length-is = c .power-of-two .ensures
+
 -- past both tests: no mark and no coded mark is tied
 module _ (c : tie.Else2) where
-  abbrev start : tie.Start
-  start = c .before .before .before .before .before .before .before
+  abbrev powered : tie.After-power-of-two
+  powered = c .before .before .before .before
 
-  length-is : c .before .before .before .before .power-of-two .result ≡ 2 ^ start .args .m
-  length-is = c .before .before .before .before .power-of-two .ensures
+  marks-clear : untied (2 ^ start powered .args .m) (λ i. getD (now (start powered .args .marks)) i 0) ≡ true
+  marks-clear =
+      rw (length-is powered) at
+      (sym (c .before .before .before .untied .ensures) ∙ not-false _ (c .before .before .if1 .left))
 
-  marks-clear : untied (2 ^ start .args .m) (λ i. getD (now (start .args .marks)) i 0) ≡ true
-  marks-clear = rw length-is at (sym (c .before .before .before .untied .ensures) ∙ not-false _ (c .before .before .if1 .left))
-
-  coded-clear : untied (2 ^ start .args .m) (λ i. getD (now (start .args .coded)) i 0) ≡ true
-  coded-clear = rw length-is at (sym (c .before .untied2 .ensures) ∙ not-false _ (c .if2 .left))
+  coded-clear : untied (2 ^ start powered .args .m) (λ i. getD (now (start powered .args .coded)) i 0) ≡ true
+  coded-clear = rw (length-is powered) at (sym (c .before .untied2 .ensures) ∙ not-false _ (c .if2 .left))
 
 module _ (c : tie.After-copy) where
   abbrev clear : tie.Else2
   clear = c .before .before
 
   abbrev entry : tie.Start
-  entry = start clear
+  entry = start (powered clear)
 
   copied : Holds (entry .args .m) (now (entry .args .marks)) (c .copy .last .1 .1 .0)
   copied =
       copied-holds (replicate 1024 0) _ (entry .pre .1 .0) (marks-clear clear) (room (entry .args .m) (entry .pre .0))
-      (rw (length-is clear) at (c .copy .ensures))
+      (rw (length-is (powered clear)) at (c .copy .ensures))
 
 power-of-two-requires : tie.Need-power-of-two-requires
 power-of-two-requires c κs = search needs
@@ -45,26 +61,28 @@ untied-requires c κs = search needs
 
 returns : tie.Need-returns
 returns c =
-    let s = c .before .before .before .before .before in
+    let powering = c .before .before in
+    let s = start powering in
     tie-fails (s .args .m) (λ i. getD (now (s .args .marks)) i 0) (λ i. getD (now (s .args .coded)) i 0)
-    (rw (c .before .before .power-of-two .ensures) at (sym (c .before .untied .ensures) ∙ not-true _ (c .if1 .taken)))
+    (rw (length-is powering) at (sym (c .before .untied .ensures) ∙ not-true _ (c .if1 .taken)))
 
 untied-requires-2 : tie.Need-untied-requires-2
 untied-requires-2 c κs = search needs
 
 returns-2 : tie.Need-returns-2
 returns-2 c =
-    let s = c .before .before .before .before .before .before .before in
+    let powering = c .before .before .before .before in
+    let s = start powering in
     coded-tie-fails (s .args .m) (λ i. getD (now (s .args .marks)) i 0) (λ i. getD (now (s .args .coded)) i 0)
-    (rw (c .before .before .before .before .power-of-two .ensures) at (sym (c .before .untied2 .ensures) ∙ not-true _ (c .if2 .taken)))
+    (rw (length-is powering) at (sym (c .before .untied2 .ensures) ∙ not-true _ (c .if2 .taken)))
 
 slice-aggregate-copy : tie.Need-slice-aggregate-copy
 slice-aggregate-copy c = search needs
 
 copy-requires : tie.Need-copy-requires
 copy-requires c κs =
-    let s = start (c .before) in
-    rw (length-is (c .before)) (s .pre .1 .0 .long, room (s .args .m) (s .pre .0))
+    let s = start (powered (c .before)) in
+    rw (length-is (powered (c .before))) (s .pre .1 .0 .long, room (s .args .m) (s .pre .0))
 
 slice-aggregate-transform : tie.Need-slice-aggregate-transform
 slice-aggregate-transform c = search needs
@@ -79,14 +97,16 @@ equal-requires : tie.Need-equal-requires
 equal-requires c κs =
     let coding = c .before .before in
     let copying = coding .before .before .before in
-    rw (length-is (clear copying)) (coded-long (copied copying) _ (coding .transform .ensures), entry copying .pre .1 .1 .long)
+    rw (length-is (powered (clear copying)))
+    (coded-long (copied copying) _ (coding .transform .ensures), entry copying .pre .1 .1 .long)
 
 returns-3 : tie.Need-returns-3
 returns-3 c =
     let coding = c .before .before .before in
     let copying = coding .before .before .before in
-    rw (length-is (clear copying)) at (c .equal .ensures)
-    ∙ compared (copied copying) _ (coding .transform .ensures) (entry copying .pre .1 .1) (marks-clear (clear copying)) (coded-clear (clear copying))
+    rw (length-is (powered (clear copying))) at (c .equal .ensures)
+    ∙ compared (copied copying) _ (coding .transform .ensures) (entry copying .pre .1 .1) (marks-clear (clear copying))
+    (coded-clear (clear copying))
 
 pub g-matrix-spec : {M : Type 1} → statement M
 g-matrix-spec =

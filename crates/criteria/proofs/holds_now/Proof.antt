@@ -19,7 +19,8 @@ power-of-two-requires : tie.Need-power-of-two-requires
 power-of-two-requires c κs = search needs
 
 least-size-requires : tie.Need-least-size-requires
-least-size-requires c κs = rw (c .power-of-two .ensures) (c .before .before .before .before .before .before .pre .1 .0)
+least-size-requires c κs =
+    let s = c .before .before .before .before .before .before in rw (c .power-of-two .ensures) (s .pre .1 .0)
 
 enum-known-criterion-2 : tie.Need-enum-known-criterion-2
 enum-known-criterion-2 c = search needs
@@ -31,7 +32,9 @@ returns-2 : tie.Need-returns-2
 returns-2 c = rw (c .before .enum-told2 .given .1) (c .g-matrix .ensures)
 
 returns-3 : tie.Need-returns-3
-returns-3 c = rw (c .before .before .before .criterion .given .1) (rw (c .before .power-of-two .ensures) at (c .least-size .ensures))
+returns-3 c =
+    rw (c .before .before .before .criterion .given .1)
+    (rw (c .before .power-of-two .ensures) at (c .least-size .ensures))
 
 returns-4 : tie.Need-returns-4
 returns-4 c = rw (c .before .before .criterion2 .given .1)

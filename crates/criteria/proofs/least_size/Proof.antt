@@ -15,7 +15,8 @@ use Rattle.criteria.proofs.least_size.Statement.{statement}
 use Rattle.criteria.proofs.least_size.Tie as tie
 
 abbrev Inv-loop : tie.InvT-loop
-Inv-loop operand soft n least₀ i₀ least i = (i ≤ n) × (leb operand least ≡ leastSize i operand (λ j. getD soft j (pos 0)))
+Inv-loop operand soft n least₀ i₀ least i =
+    (i ≤ n) × (leb operand least ≡ leastSize i operand (λ j. getD soft j (pos 0)))
 
 abbrev μ-loop : tie.MeasureT-loop
 μ-loop operand soft n least₀ i₀ least i = n - i
@@ -54,7 +55,8 @@ loop-again c =
     let turn = c .before .before .before in
     let at = turn .before in
     let size = c .before .size .ensures ∙ ap natAbs (small-kept (value turn) (small turn)) in
-    let next = least-next (λ j. getD (at .before .args .soft .now) j (pos 0)) (at .before .args .operand) (at .loop .i) (at .loop .least) _ (at .loop .inv .1) size in
+    let next = least-next (λ j. getD (at .before .args .soft .now) j (pos 0)) (at .before .args .operand) (at .loop .i)
+    (at .loop .least) _ (at .loop .inv .1) size in
     (omega arith, rw (c .smaller .ensures) next)
 
 returns : tie.Need-returns Inv-loop μ-loop

@@ -5,7 +5,7 @@ use native.Mathlib.Omega.{arith}
 use borrow.Author.Needs.{needs}
 use denote.Ref.{now}
 use lib.IntN.{pos}
-use lib.ListN.{length, getD}
+use lib.ListN.{getD}
 use mir.Syntax.{w16}
 use mir.Val.{toZ, ofZ}
 use Rattle.criteria.specs.Marks.{markOf}
@@ -44,7 +44,8 @@ loop-again : tie.Need-loop-again Inv-loop μ-loop
 loop-again c =
     let at = c .before .before .before in
     let s = at .before .before in
-    let back : toZ w16 (ofZ w16 (getD (now (s .args .soft)) (at .loop .i) (pos 0))) ≡ getD (now (s .args .soft)) (at .loop .i) (pos 0) = search needs in
+    let back : toZ w16 (ofZ w16 (getD (now (s .args .soft)) (at .loop .i) (pos 0)))
+    ≡ getD (now (s .args .soft)) (at .loop .i) (pos 0) = search needs in
     (omega arith, written-next (at .loop .inv .1) (c .mark .ensures ∙ ap markOf back) (omega arith))
 
 same-length : tie.Need-same-length Inv-loop μ-loop

@@ -16,7 +16,8 @@ use Rattle.criteria.proofs.same_marks.Statement.{statement}
 use Rattle.criteria.proofs.same_marks.Tie as tie
 
 abbrev Inv-loop : tie.InvT-loop
-Inv-loop mask before soft n same₀ i₀ same i = (i ≤ n) × (same ≡ sameMarks i mask (λ j. getD before j 0) (λ j. markOf (getD soft j (pos 0))))
+Inv-loop mask before soft n same₀ i₀ same i =
+    (i ≤ n) × (same ≡ sameMarks i mask (λ j. getD before j 0) (λ j. markOf (getD soft j (pos 0))))
 
 abbrev μ-loop : tie.MeasureT-loop
 μ-loop mask before soft n same₀ i₀ same i = n - i
@@ -62,12 +63,17 @@ loop-again c =
     let i = at .loop .i in (
       omega arith,
       c .both .ensures
-          ∙ every-next i (λ j. byKind (getD mask j 0) (eqb (getD before j 0) (markOf (getD soft j (pos 0)))) (λ bit. true)) (at .loop .inv .1)
-          (c .before .keeps-mark .ensures ∙ rw (c .before .before .mark .ensures) (rw (kept (getD soft i (pos 0)) (mark-arg .mark-arg .given)))),
+          ∙ every-next i
+          (λ j. byKind (getD mask j 0) (eqb (getD before j 0) (markOf (getD soft j (pos 0)))) (λ bit. true))
+          (at .loop .inv .1)
+          (c .before .keeps-mark .ensures
+          ∙ rw (c .before .before .mark .ensures) (rw (kept (getD soft i (pos 0)) (mark-arg .mark-arg .given)))),
     )
 
 returns : tie.Need-returns Inv-loop μ-loop
-returns c = let e : c .before .loop .i ≡ c .before .before .before .before .args .n = omega arith in rw e at (c .before .loop .inv .1)
+returns c =
+    let e : c .before .loop .i ≡ c .before .before .before .before .args .n = omega arith in
+    rw e at (c .before .loop .inv .1)
 
 pub same-marks-spec : {M : Type 1} → statement M
 same-marks-spec =

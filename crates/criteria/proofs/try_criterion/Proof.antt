@@ -1,5 +1,5 @@
 -- `try_criterion` meets its contract.
-use mathlib.Core.Path.{_≡_, refl, _∙_}
+use mathlib.Core.Path.{refl, _∙_}
 use denote.Ref.{now}
 use lib.IntN.{pos}
 use lib.ListN.{getD}
@@ -17,7 +17,8 @@ module _ (c : tie.After-mark-all) where
   abbrev start : tie.Start
   start = c .before .before .before .before .before .before .before .before
 
-  marked : Written (2 ^ start .args .m) (λ i. markOf (getD (now (start .args .soft)) i (pos 0))) (now (start .args .marks)) (c .mark-all .last .1 .1 .0)
+  marked : Written (2 ^ start .args .m) (λ i. markOf (getD (now (start .args .soft)) i (pos 0)))
+      (now (start .args .marks)) (c .mark-all .last .1 .1 .0)
   marked = record { is = rw (c .before .before .power-of-two .ensures) at (c .mark-all .ensures) }
 
 next-requires : tie.Need-next-requires
@@ -32,8 +33,14 @@ mark-all-requires c κs = search needs
 holds-now-requires : tie.Need-holds-now-requires
 holds-now-requires c κs =
     let m = c .before .before .before in
-    let s = start m in
-    (s .pre .0 .0, (s .pre .1 .1 .0, mark-bytes (λ i. getD (now (s .args .soft)) i (pos 0)) (marked m) (s .pre .1 .0 .1), s .pre .1 .1 .1))
+    let s = start m in (
+      s .pre .0 .0,
+      (
+        s .pre .1 .1 .0,
+        mark-bytes (λ i. getD (now (s .args .soft)) i (pos 0)) (marked m) (s .pre .1 .0 .1),
+        s .pre .1 .1 .1,
+      ),
+    )
 
 same-length : tie.Need-same-length
 same-length c = search needs

@@ -35,11 +35,15 @@ loop-less c = omega arith
 loop-again : tie.Need-loop-again Inv-loop μ-loop
 loop-again c =
     let at = c .before .before .before in
-    let marks = at .before .before .args .marks .now in
-    (omega arith, c .both .ensures ∙ every-next (at .loop .i) (λ j. not (eqb (getD marks j 0) 2)) (at .loop .inv .1) refl)
+    let marks = at .before .before .args .marks .now in (
+      omega arith,
+      c .both .ensures
+          ∙ every-next (at .loop .i) (λ j. not (eqb (getD marks j 0) 2)) (at .loop .inv .1) refl,
+    )
 
 returns : tie.Need-returns Inv-loop μ-loop
-returns c = let e : c .before .loop .i ≡ c .before .before .before .args .n = omega arith in rw e at (c .before .loop .inv .1)
+returns c =
+    let e : c .before .loop .i ≡ c .before .before .before .args .n = omega arith in rw e at (c .before .loop .inv .1)
 
 pub untied-spec : {M : Type 1} → statement M
 untied-spec =

@@ -22,11 +22,13 @@ same-length-2 c = search needs
 
 returns : tie.Need-returns
 returns c =
-    let summed = c .before .before .before .before .before .before .before in
+    let marked-all = c .before .before in
+    let powered = marked-all .before .before .before in
+    let summed = powered .before .before in
     let s = summed .before .before .before in (
       summed .coded-soft-outputs .ensures,
       marked (record { is = summed .coded-soft-outputs .ensures }) (s .pre .1 .0) (now (s .args .coded-mark)) _
-          (rw (c .before .before .before .before .before .power-of-two .ensures) at (c .before .before .mark-all .ensures)),
+          (rw (powered .power-of-two .ensures) at (marked-all .mark-all .ensures)),
     )
 
 pub coded-outputs-spec : {M : Type 1} → statement M

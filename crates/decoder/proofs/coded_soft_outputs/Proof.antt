@@ -19,7 +19,8 @@ use Rattle.decoder.proofs.coded_soft_outputs.Statement.{statement}
 use Rattle.decoder.proofs.coded_soft_outputs.Tie as tie
 
 abbrev Inv-loop : tie.InvT-loop
-Inv-loop work coded-soft₀ rule m n left right i₀ coded-soft i = (i ≤ n) × Written i (codedSoftBy rule m work) coded-soft₀ coded-soft
+Inv-loop work coded-soft₀ rule m n left right i₀ coded-soft i =
+    (i ≤ n) × Written i (codedSoftBy rule m work) coded-soft₀ coded-soft
 
 abbrev μ-loop : tie.MeasureT-loop
 μ-loop work coded-soft₀ rule m n left right i₀ coded-soft i = n - i
@@ -33,7 +34,9 @@ module _ (c : tie.After-power-of-two Inv-loop μ-loop) where
   m = start .args .settings .m
 
   valid : WorkspaceValid (c .before .rule-of .result) m (now (start .args .work))
-  valid = subst (λ (rule : MinSum). WorkspaceValid rule m (now (start .args .work))) (sym (c .before .rule-of .ensures)) (start .pre .0)
+  valid =
+      subst (λ (rule : MinSum). WorkspaceValid rule m (now (start .args .work))) (sym (c .before .rule-of .ensures))
+      (start .pre .0)
 
   width : c .power-of-two .result ≡ 2 ^ m
   width = c .power-of-two .ensures
@@ -59,12 +62,16 @@ module _ (c : tie.After-get2 Inv-loop μ-loop) where
   abbrev p : tie.After-power-of-two Inv-loop μ-loop
   p = powered in-loop
 
-  left-is : toZ w16 (ofZ w16 (c .before .get .result)) ≡ row (m p) (now (start p .args .work)) (m p) (in-loop .before .loop .i)
+  left-is : toZ w16 (ofZ w16 (c .before .get .result))
+      ≡ row (m p) (now (start p .args .work)) (m p) (in-loop .before .loop .i)
   left-is =
-      told (c .before .get .ok) (c .before .get .ensures ∙ message-is (valid p) _ _ _ (left-row p) (omega arith) (inside in-loop))
+      told (c .before .get .ok)
+      (c .before .get .ensures ∙ message-is (valid p) _ _ _ (left-row p) (omega arith) (inside in-loop))
 
-  right-is : toZ w16 (ofZ w16 (c .get2 .result)) ≡ row (m p) (now (start p .args .work)) (m p + 1 + m p) (in-loop .before .loop .i)
-  right-is = told (c .get2 .ok) (c .get2 .ensures ∙ message-is (valid p) _ _ _ (right-row p) (omega arith) (inside in-loop))
+  right-is : toZ w16 (ofZ w16 (c .get2 .result))
+      ≡ row (m p) (now (start p .args .work)) (m p + 1 + m p) (in-loop .before .loop .i)
+  right-is =
+      told (c .get2 .ok) (c .get2 .ensures ∙ message-is (valid p) _ _ _ (right-row p) (omega arith) (inside in-loop))
 
 rule-of-requires : tie.Need-rule-of-requires Inv-loop μ-loop
 rule-of-requires c κs = let s = c in (s .pre .0 .in-range .ceiling-le, s .pre .0 .in-range .scale-le)
@@ -100,7 +107,8 @@ get-requires : tie.Need-get-requires Inv-loop μ-loop
 get-requires c κs = let i = c in in-work (valid (powered i)) _ _ _ (left-row (powered i)) (omega arith) (inside i)
 
 get-requires-2 : tie.Need-get-requires-2 Inv-loop μ-loop
-get-requires-2 c κs = let i = c .before in in-work (valid (powered i)) _ _ _ (right-row (powered i)) (omega arith) (inside i)
+get-requires-2 c κs =
+    let i = c .before in in-work (valid (powered i)) _ _ _ (right-row (powered i)) (omega arith) (inside i)
 
 add-cut-requires : tie.Need-add-cut-requires Inv-loop μ-loop
 add-cut-requires c κs =
@@ -117,7 +125,8 @@ mul-t18 : tie.Need-mul-t18 Inv-loop μ-loop
 mul-t18 c = omega arith
 
 slice-set-from-coded-soft : tie.Need-slice-set-from-coded-soft Inv-loop μ-loop
-slice-set-from-coded-soft c = omega (arith, width (p (c .before)), written-length (in-loop (c .before) .before .loop .inv .1))
+slice-set-from-coded-soft c =
+    omega (arith, width (p (c .before)), written-length (in-loop (c .before) .before .loop .inv .1))
 
 add-i : tie.Need-add-i Inv-loop μ-loop
 add-i c = omega arith
@@ -131,7 +140,8 @@ loop-again c =
     let at = in-loop g .before in (
       omega arith,
       written-next (at .loop .inv .1)
-          (told (c .add-cut .ok) (c .add-cut .ensures ∙ ap₂ (add _) (left-is g) (right-is g))) (omega (arith, width (p g))),
+          (told (c .add-cut .ok) (c .add-cut .ensures ∙ ap₂ (add _) (left-is g) (right-is g)))
+          (omega (arith, width (p g))),
     )
 
 same-length : tie.Need-same-length Inv-loop μ-loop
@@ -141,7 +151,8 @@ returns : tie.Need-returns Inv-loop μ-loop
 returns c =
     let powered = c .before .before in
     written-all (c .before .loop .inv .1) (2 ^ m powered) (omega (arith, width powered))
-    ∙ ap (λ (rule : MinSum). overwrite (2 ^ m powered) (codedSoftBy rule (m powered) (now (start powered .args .work))) (now (start powered .args .coded-soft))) (powered .before .rule-of .ensures)
+    ∙ ap (λ (rule : MinSum). overwrite (2 ^ m powered) (codedSoftBy rule (m powered) (now (start powered .args .work)))
+    (now (start powered .args .coded-soft))) (powered .before .rule-of .ensures)
 
 pub coded-soft-outputs-spec : {M : Type 1} → statement M
 coded-soft-outputs-spec =

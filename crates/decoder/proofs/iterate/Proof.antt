@@ -16,13 +16,17 @@ module _ (c : tie.After-iterate) where
   abbrev start : tie.Start
   start = c .before .before .before .before .before
 
-  iterated : c .iterate .last .1 .1 .0 ≡ iteration (ruleOf (start .args .settings)) (start .args .settings .m) (now (start .args .work))
+  iterated : c .iterate .last .1 .1 .0
+      ≡ iteration (ruleOf (start .args .settings)) (start .args .settings .m) (now (start .args .work))
   iterated =
       c .iterate .ensures
-      ∙ ap (λ (rule : MinSum). iteration rule (start .args .settings .m) (now (start .args .work))) (c .before .before .rule-of .ensures)
+      ∙ ap (λ (rule : MinSum). iteration rule (start .args .settings .m) (now (start .args .work)))
+      (c .before .before .rule-of .ensures)
 
   still-valid : WorkspaceValid (ruleOf (start .args .settings)) (start .args .settings .m) (c .iterate .last .1 .1 .0)
-  still-valid = subst (λ (w : List ℤ). WorkspaceValid (ruleOf (start .args .settings)) (start .args .settings .m) w) (sym iterated) (valid-iteration (start .pre .0))
+  still-valid =
+      subst (λ (w : List ℤ). WorkspaceValid (ruleOf (start .args .settings)) (start .args .settings .m) w)
+      (sym iterated) (valid-iteration (start .pre .0))
 
 rule-of-requires : tie.Need-rule-of-requires
 rule-of-requires c κs = search needs
@@ -36,7 +40,8 @@ soft-outputs-requires c κs =
 
 coded-outputs-requires : tie.Need-coded-outputs-requires
 coded-outputs-requires c κs =
-    let i = c .before .before .before .before .before .before .before .before in let s = start i in (still-valid i, (s .pre .1 .2, s .pre .1 .3))
+    let i = c .before .before .before .before .before .before .before .before in
+    let s = start i in (still-valid i, (s .pre .1 .2, s .pre .1 .3))
 
 same-length : tie.Need-same-length
 same-length c = search needs
@@ -53,8 +58,10 @@ same-length-4 c = search needs
 returns : tie.Need-returns
 returns c =
     let coded = c .before .before .before in
-    let summed = coded .before .before .before .before .before in
-    (iterated (summed .before .before .before .before), (summed .soft-outputs .ensures, (coded .coded-outputs .ensures .0, coded .coded-outputs .ensures .1)))
+    let summed = coded .before .before .before .before .before in (
+      iterated (summed .before .before .before .before),
+      (summed .soft-outputs .ensures, (coded .coded-outputs .ensures .0, coded .coded-outputs .ensures .1)),
+    )
 
 pub iterate-spec : {M : Type 1} → statement M
 iterate-spec =

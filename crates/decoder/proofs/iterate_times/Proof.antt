@@ -20,7 +20,8 @@ loop-holds : tie.Need-loop-holds Inv-loop μ-loop
 loop-holds c = (zero-le, refl)
 
 iterate-requires : tie.Need-iterate-requires Inv-loop μ-loop
-iterate-requires c κs = let at = c .before .before in rw (at .loop .inv .1) (valid-iterations (at .before .pre) (at .loop .t))
+iterate-requires c κs =
+    let at = c .before .before in rw (at .loop .inv .1) (valid-iterations (at .before .pre) (at .loop .t))
 
 add-t : tie.Need-add-t Inv-loop μ-loop
 add-t c = omega arith
@@ -39,7 +40,8 @@ same-length c =
     ap length (c .before .loop .inv .1) ∙ length-iterations (a .rule) (a .m) (c .before .loop .t) (now (a .work))
 
 returns : tie.Need-returns Inv-loop μ-loop
-returns c = let e : c .before .loop .t ≡ c .before .before .args .count = omega arith in rw e at (c .before .loop .inv .1)
+returns c =
+    let e : c .before .loop .t ≡ c .before .before .args .count = omega arith in rw e at (c .before .loop .inv .1)
 
 pub iterate-times-spec : {M : Type 1} → statement M
 iterate-times-spec =

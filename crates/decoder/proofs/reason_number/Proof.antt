@@ -4,8 +4,6 @@ use borrow.Author.Needs.{needs}
 use Rattle.decoder.specs.Decoder.{reasonNumber}
 use Rattle.decoder.proofs.reason_number.Statement.{statement}
 use Rattle.decoder.proofs.reason_number.Tie as tie
-use Rattle.decoder.proofs.reason_number.Reads as reads
-use Rattle.decoder.proofs.reason_number.Lts as lts
 
 enum-told : tie.Need-enum-told
 enum-told c = search needs

@@ -1,5 +1,5 @@
 -- `run` meets its contract.
-use Prim.Native.Nat.{ℕ, suc, _≤_, _<_, _-_, _^_, zero-le}
+use Prim.Native.Nat.{_≤_, _-_, zero-le}
 use mathlib.Core.Path.{_≡_, ap}
 use native.Mathlib.Numerals.{add-one}
 use native.Mathlib.Omega.{arith}
@@ -8,77 +8,111 @@ use denote.Ref.{now}
 use Rattle.settings.specs.declared.Lengths.{Lengths}
 use Rattle.settings.specs.Slices.{Slices, slices, lengthsOf}
 use Rattle.decoder.specs.RunLaws.{run-valid, run-memory}
-use Rattle.decoder.proofs.Running.{Steps, no-steps, steps-lengths, steps-fit, steps-ended, next-lengths, next-step, found}
+use Rattle.decoder.proofs.Running.{
+  Steps,
+  no-steps,
+  steps-lengths,
+  steps-fit,
+  steps-ended,
+  next-lengths,
+  next-step,
+  found,
+}
 use Rattle.decoder.proofs.run.Statement.{statement}
 use Rattle.decoder.proofs.run.Tie as tie
 
 abbrev Inv-loop : tie.InvT-loop
-Inv-loop settings mask soft₀ mark₀ coded-soft₀ coded-mark₀ work₀ limit memory₀ iterations₀ soft mark coded-soft coded-mark work memory iterations =
+Inv-loop settings mask soft₀ mark₀ coded-soft₀ coded-mark₀ work₀ limit memory₀ iterations₀
+    soft mark coded-soft coded-mark work memory iterations =
     (iterations ≤ limit)
-    × Steps settings mask iterations memory (slices soft₀ mark₀ coded-soft₀ coded-mark₀ work₀) (slices soft mark coded-soft coded-mark work)
+    × Steps settings mask iterations memory (slices soft₀ mark₀ coded-soft₀ coded-mark₀ work₀)
+    (slices soft mark coded-soft coded-mark work)
 
 abbrev μ-loop : tie.MeasureT-loop
-μ-loop settings mask soft₀ mark₀ coded-soft₀ coded-mark₀ work₀ limit memory₀ iterations₀ soft mark coded-soft coded-mark work memory iterations = limit - iterations
+μ-loop settings mask soft₀ mark₀ coded-soft₀ coded-mark₀ work₀ limit memory₀ iterations₀
+    soft mark coded-soft coded-mark work memory iterations =
+    limit - iterations
 
 abbrev first : tie.Start Inv-loop μ-loop → Slices
-first c = let a = c .args in slices (now (a .soft)) (now (a .mark)) (now (a .coded-soft)) (now (a .coded-mark)) (now (a .work))
+first c =
+    let a = c .args in
+    slices (now (a .soft)) (now (a .mark)) (now (a .coded-soft)) (now (a .coded-mark)) (now (a .work))
+
+module _ (c : tie.At-loop Inv-loop μ-loop) where
+  abbrev start : tie.Start Inv-loop μ-loop
+  start = c .before .before .before .before .before
+
+module _ (c : tie.After-step-arg5 Inv-loop μ-loop) where
+  abbrev at : tie.At-loop Inv-loop μ-loop
+  at = c .before .before .before .before .before .before
 
 module _ (c : tie.After-step Inv-loop μ-loop) where
-  abbrev at : tie.At-loop Inv-loop μ-loop
-  at = c .before .before .before .before .before .before .before
-
-  abbrev start : tie.Start Inv-loop μ-loop
-  start = at .before .before .before .before .before
-
   abbrev new : Slices
-  new = let l = c .step .last in slices (l .1 .1 .1 .0) (l .1 .1 .1 .1 .0) (l .1 .1 .1 .1 .1 .0) (l .1 .1 .1 .1 .1 .1 .0) (l .1 .1 .1 .1 .1 .1 .1 .0)
+  new =
+      let l = c .step .last in
+      slices (l .1 .1 .1 .0) (l .1 .1 .1 .1 .0) (l .1 .1 .1 .1 .1 .0) (l .1 .1 .1 .1 .1 .1 .0)
+      (l .1 .1 .1 .1 .1 .1 .1 .0)
 
-  same : lengthsOf new ≡ lengthsOf (first start)
-  same = next-lengths (at .loop .inv .1) (c .step .ensures)
+  same : lengthsOf new ≡ lengthsOf (first (start (at (c .before))))
+  same = next-lengths (at (c .before) .loop .inv .1) (c .step .ensures)
+
+module _ (c : tie.After-next Inv-loop μ-loop) where
+  abbrev stepped : tie.After-step Inv-loop μ-loop
+  stepped = c .before .before .before .before .before .before .before .before
 
 new-requires : tie.Need-new-requires Inv-loop μ-loop
 new-requires c κs = search needs
 
 loop-holds : tie.Need-loop-holds Inv-loop μ-loop
-loop-holds c = let s = c .before .before .before .before in (zero-le, no-steps (s .args .settings) (now (s .args .mask)) (first s) (c .new .ensures))
+loop-holds c =
+    let s = c .before .before .before .before in
+    (zero-le, no-steps (s .args .settings) (now (s .args .mask)) (first s) (c .new .ensures))
 
 step-requires : tie.Need-step-requires Inv-loop μ-loop
 step-requires c κs =
-    let l = c .before .before .before .before .before .before in
-    let s = l .before .before .before .before .before in
-    let h = l .loop .inv .1 in
-    (run-valid (h .goes-on) (s .pre .0), ((s .pre .1 .0 .0, run-memory (h .goes-on) (omega arith)), (s .pre .1 .1 .0, steps-fit h (s .pre .1 .1 .1))))
+    let l = at c in
+    let s = start l in
+    let h = l .loop .inv .1 in (
+      run-valid (h .goes-on) (s .pre .0),
+      ((s .pre .1 .0 .0, run-memory (h .goes-on) (omega arith)), (s .pre .1 .1 .0, steps-fit h (s .pre .1 .1 .1))),
+    )
 
 add-iterations : tie.Need-add-iterations Inv-loop μ-loop
 add-iterations c = omega arith
 
 same-length : tie.Need-same-length Inv-loop μ-loop
-same-length c = ap (λ (l : Lengths). l .soft) (same (c .before .before .before .before .before .before .before .before .before))
+same-length c = ap (λ (l : Lengths). l .soft) (same (stepped (c .before)))
 
 same-length-2 : tie.Need-same-length-2 Inv-loop μ-loop
-same-length-2 c = ap (λ (l : Lengths). l .mark) (same (c .before .before .before .before .before .before .before .before .before))
+same-length-2 c = ap (λ (l : Lengths). l .mark) (same (stepped (c .before)))
 
 same-length-3 : tie.Need-same-length-3 Inv-loop μ-loop
-same-length-3 c = ap (λ (l : Lengths). l .«coded_soft») (same (c .before .before .before .before .before .before .before .before .before))
+same-length-3 c = ap (λ (l : Lengths). l .«coded_soft») (same (stepped (c .before)))
 
 same-length-4 : tie.Need-same-length-4 Inv-loop μ-loop
-same-length-4 c = ap (λ (l : Lengths). l .«coded_mark») (same (c .before .before .before .before .before .before .before .before .before))
+same-length-4 c = ap (λ (l : Lengths). l .«coded_mark») (same (stepped (c .before)))
 
 same-length-5 : tie.Need-same-length-5 Inv-loop μ-loop
-same-length-5 c = ap (λ (l : Lengths). l .work) (same (c .before .before .before .before .before .before .before .before .before))
+same-length-5 c = ap (λ (l : Lengths). l .work) (same (stepped (c .before)))
 
 returns : tie.Need-returns Inv-loop μ-loop
 returns c =
-    let a = c .before .before .before .before .before .before .before .before .before in
-    found (at a .loop .inv .1) (a .step .ensures) (start a .pre .1 .1 .1) (c .if1 .taken) (omega arith) _ (add-one (at a .loop .iterations))
+    let a = stepped (c .before) in
+    let l = at (a .before) in
+    found (l .loop .inv .1) (a .step .ensures) (start l .pre .1 .1 .1) (c .if1 .taken) (omega arith) _
+    (add-one (l .loop .iterations))
 
 loop-less : tie.Need-loop-less Inv-loop μ-loop
 loop-less c = omega arith
 
 loop-again : tie.Need-loop-again Inv-loop μ-loop
 loop-again c =
-    let a = c .before .before .before .before .before .before .before .before .before in
-    (omega arith, next-step (at a .loop .inv .1) (a .step .ensures) (start a .pre .1 .1 .1) (c .if1 .left) _ (add-one (at a .loop .iterations)))
+    let a = stepped (c .before) in
+    let l = at (a .before) in (
+      omega arith,
+      next-step (l .loop .inv .1) (a .step .ensures) (start l .pre .1 .1 .1) (c .if1 .left) _
+          (add-one (l .loop .iterations)),
+    )
 
 same-length-6 : tie.Need-same-length-6 Inv-loop μ-loop
 same-length-6 c = ap (λ (l : Lengths). l .soft) (steps-lengths (c .before .loop .inv .1))

@@ -18,17 +18,24 @@ module _ (c : tie.After-iterate-times) where
   abbrev start : tie.Start
   start = c .before .before .before .before .before .before
 
-  iterated : c .iterate-times .last .1 .1 .1 .0
-      ≡ iterations (ruleOf (start .args .settings)) (start .args .settings .m) (start .args .settings .limit) (now (start .args .work))
-  iterated =
+  work-is : c .iterate-times .last .1 .1 .1 .0
+      ≡ iterations (ruleOf (start .args .settings)) (start .args .settings .m) (start .args .settings .limit)
+      (now (start .args .work))
+  work-is =
       c .iterate-times .ensures
-      ∙ ap (λ (rule : MinSum). iterations rule (start .args .settings .m) (start .args .settings .limit) (now (start .args .work)))
+      ∙ ap (λ (rule : MinSum). iterations rule (start .args .settings .m) (start .args .settings .limit)
+      (now (start .args .work)))
       (c .before .before .rule-of .ensures)
 
-  valid : WorkspaceValid (ruleOf (start .args .settings)) (start .args .settings .m) (c .iterate-times .last .1 .1 .1 .0)
+  valid : WorkspaceValid (ruleOf (start .args .settings)) (start .args .settings .m)
+      (c .iterate-times .last .1 .1 .1 .0)
   valid =
-      subst (λ (w : List ℤ). WorkspaceValid (ruleOf (start .args .settings)) (start .args .settings .m) w) (sym iterated)
+      subst (λ (w : List ℤ). WorkspaceValid (ruleOf (start .args .settings)) (start .args .settings .m) w) (sym work-is)
       (valid-iterations (start .pre .0) (start .args .settings .limit))
+
+module _ (c : tie.After-outputs-arg5) where
+  abbrev iterated : tie.After-iterate-times
+  iterated = c .before .before .before .before .before .before
 
 rule-of-requires : tie.Need-rule-of-requires
 rule-of-requires c κs = search needs
@@ -39,7 +46,7 @@ iterate-times-requires c κs =
 
 outputs-requires : tie.Need-outputs-requires
 outputs-requires c κs =
-    let i = c .before .before .before .before .before .before in
+    let i = iterated c in
     let s = start i in
     (valid i, (s .pre .1 .0, fit-with _ (s .pre .1 .1)))
 
@@ -61,14 +68,15 @@ same-length-5 c = search needs
 returns : tie.Need-returns
 returns c =
     let o = c .before .before .before .before .before .before in
-    let i = o .before .before .before .before .before .before .before in
+    let i = iterated (o .before) in
     let a = start i .args in
     record {
       answer = refl;
       slices =
           o .outputs .ensures
           ∙ ap (λ (w : List ℤ). outputsOf (a .settings) (now (a .mask)) w
-          (slices (now (a .soft)) (now (a .mark)) (now (a .coded-soft)) (now (a .coded-mark)) (now (a .work)))) (iterated i);
+          (slices (now (a .soft)) (now (a .mark)) (now (a .coded-soft)) (now (a .coded-mark)) (now (a .work))))
+          (work-is i);
     }
 
 pub run-to-limit-spec : {M : Type 1} → statement M

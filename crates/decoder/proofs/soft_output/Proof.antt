@@ -13,7 +13,8 @@ add-cut-requires c κs = search needs
 returns : tie.Need-returns
 returns c =
     let s = c .before in
-    told (c .add-cut .ok) (c .add-cut .ensures ∙ ap₂ (add (s .args .rule)) (toZ-ofZ (s .fits .left)) (toZ-ofZ (s .fits .right)))
+    told (c .add-cut .ok)
+    (c .add-cut .ensures ∙ ap₂ (add (s .args .rule)) (toZ-ofZ (s .fits .left)) (toZ-ofZ (s .fits .right)))
 
 pub soft-output-spec : {M : Type 1} → statement M
 soft-output-spec = tie.close (tie.spec add-cut-requires returns)

@@ -35,7 +35,9 @@ module _ (c : tie.After-power-of-two Inv-loop μ-loop) where
   m = start .args .settings .m
 
   valid : WorkspaceValid (c .before .rule-of .result) m (now (start .args .work))
-  valid = subst (λ (rule : MinSum). WorkspaceValid rule m (now (start .args .work))) (sym (c .before .rule-of .ensures)) (start .pre .0)
+  valid =
+      subst (λ (rule : MinSum). WorkspaceValid rule m (now (start .args .work))) (sym (c .before .rule-of .ensures))
+      (start .pre .0)
 
   width : c .power-of-two .result ≡ 2 ^ m
   width = c .power-of-two .ensures
@@ -61,12 +63,16 @@ module _ (c : tie.After-get2 Inv-loop μ-loop) where
   abbrev p : tie.After-power-of-two Inv-loop μ-loop
   p = powered in-loop
 
-  left-is : toZ w16 (ofZ w16 (c .before .get .result)) ≡ row (m p) (now (start p .args .work)) 0 (in-loop .before .loop .i)
+  left-is : toZ w16 (ofZ w16 (c .before .get .result))
+      ≡ row (m p) (now (start p .args .work)) 0 (in-loop .before .loop .i)
   left-is =
-      told (c .before .get .ok) (c .before .get .ensures ∙ message-is (valid p) _ _ _ (left-row p) (omega arith) (inside in-loop))
+      told (c .before .get .ok)
+      (c .before .get .ensures ∙ message-is (valid p) _ _ _ (left-row p) (omega arith) (inside in-loop))
 
-  right-is : toZ w16 (ofZ w16 (c .get2 .result)) ≡ row (m p) (now (start p .args .work)) (m p + 1 + 0) (in-loop .before .loop .i)
-  right-is = told (c .get2 .ok) (c .get2 .ensures ∙ message-is (valid p) _ _ _ (right-row p) (omega arith) (inside in-loop))
+  right-is : toZ w16 (ofZ w16 (c .get2 .result))
+      ≡ row (m p) (now (start p .args .work)) (m p + 1 + 0) (in-loop .before .loop .i)
+  right-is =
+      told (c .get2 .ok) (c .get2 .ensures ∙ message-is (valid p) _ _ _ (right-row p) (omega arith) (inside in-loop))
 
 rule-of-requires : tie.Need-rule-of-requires Inv-loop μ-loop
 rule-of-requires c κs = let s = c .before in (s .pre .0 .in-range .ceiling-le, s .pre .0 .in-range .scale-le)
@@ -90,10 +96,12 @@ shared-slice-read-soft-output : tie.Need-shared-slice-read-soft-output Inv-loop 
 shared-slice-read-soft-output c = omega (arith, inside (c .before))
 
 get-requires : tie.Need-get-requires Inv-loop μ-loop
-get-requires c κs = let i = c .before in in-work (valid (powered i)) _ _ _ (left-row (powered i)) (omega arith) (inside i)
+get-requires c κs =
+    let i = c .before in in-work (valid (powered i)) _ _ _ (left-row (powered i)) (omega arith) (inside i)
 
 get-requires-2 : tie.Need-get-requires-2 Inv-loop μ-loop
-get-requires-2 c κs = let i = c .before .before in in-work (valid (powered i)) _ _ _ (right-row (powered i)) (omega arith) (inside i)
+get-requires-2 c κs =
+    let i = c .before .before in in-work (valid (powered i)) _ _ _ (right-row (powered i)) (omega arith) (inside i)
 
 soft-output-requires : tie.Need-soft-output-requires Inv-loop μ-loop
 soft-output-requires c κs =
@@ -124,7 +132,10 @@ loop-again c =
     let at = in-loop g .before in (
       omega arith,
       written-next (at .loop .inv .1)
-          (told (c .soft-output .ok) (c .soft-output .ensures ∙ ap₂ (softOf (p g .before .rule-of .result) (getD (now (start (p g) .args .mask)) (at .loop .i) 0)) (left-is g) (right-is g))) (omega (arith, width (p g))),
+          (told (c .soft-output .ok)
+          (c .soft-output .ensures
+          ∙ ap₂ (softOf (p g .before .rule-of .result) (getD (now (start (p g) .args .mask)) (at .loop .i) 0))
+          (left-is g) (right-is g))) (omega (arith, width (p g))),
     )
 
 same-length : tie.Need-same-length Inv-loop μ-loop
@@ -134,7 +145,9 @@ returns : tie.Need-returns Inv-loop μ-loop
 returns c =
     let powered = c .before .before in
     written-all (c .before .loop .inv .1) (2 ^ m powered) (omega (arith, width powered))
-    ∙ ap (λ (rule : MinSum). overwrite (2 ^ m powered) (softBy rule (m powered) (now (start powered .args .mask)) (now (start powered .args .work))) (now (start powered .args .soft))) (powered .before .rule-of .ensures)
+    ∙ ap (λ (rule : MinSum). overwrite (2 ^ m powered)
+    (softBy rule (m powered) (now (start powered .args .mask)) (now (start powered .args .work)))
+    (now (start powered .args .soft))) (powered .before .rule-of .ensures)
 
 pub soft-outputs-spec : {M : Type 1} → statement M
 soft-outputs-spec =

@@ -12,7 +12,13 @@ module _ (c : tie.After-iterate) where
   start = c .before .before .before .before .before .before .before .before
 
   abbrev before : Slices
-  before = let a = start .args in slices (now (a .soft)) (now (a .mark)) (now (a .coded-soft)) (now (a .coded-mark)) (now (a .work))
+  before =
+      let a = start .args in
+      slices (now (a .soft)) (now (a .mark)) (now (a .coded-soft)) (now (a .coded-mark)) (now (a .work))
+
+module _ (c : tie.After-try-criterion-arg3) where
+  abbrev iterated : tie.After-iterate
+  iterated = c .before .before .before .before .before .before .before .before .before
 
 iterate-requires : tie.Need-iterate-requires
 iterate-requires c κs = search needs
@@ -22,13 +28,14 @@ criterion-of-requires c κs = search needs
 
 try-criterion-requires : tie.Need-try-criterion-requires
 try-criterion-requires c κs =
-    let i = c .before .before .before .before .before .before .before .before .before in
+    let i = iterated c in
     let s = start i in
     let e = i .iterate .ensures in (
       (s .pre .0 .size, s .pre .1 .0 .1),
       (
         (s .pre .1 .1 .0, s .pre .1 .1 .1 .mark),
-        triable (s .args .settings) (now (s .args .mask)) (before i) (s .pre .1 .1 .1) (e .0) (e .1 .0) (e .1 .1 .0) (e .1 .1 .1)
+        triable (s .args .settings) (now (s .args .mask)) (before i) (s .pre .1 .1 .1) (e .0) (e .1 .0) (e .1 .1 .0)
+            (e .1 .1 .1)
             (s .pre .0 .in-range .ceiling-le),
       ),
     )
@@ -51,10 +58,11 @@ same-length-5 c = search needs
 returns : tie.Need-returns
 returns c =
     let t = c .before .before in
-    let i = t .before .before .before .before .before .before .before .before .before .before in
+    let i = iterated (t .before) in
     let s = start i in
     let e = i .iterate .ensures in
-    one-iteration (s .args .settings) (now (s .args .mask)) (before i) (s .pre .1 .1 .1) (e .0) (e .1 .0) (e .1 .1 .0) (e .1 .1 .1)
+    one-iteration (s .args .settings) (now (s .args .mask)) (before i) (s .pre .1 .1 .1) (e .0) (e .1 .0) (e .1 .1 .0)
+    (e .1 .1 .1)
     (s .args .memory) (t .before .before .before .before .criterion-of .ensures) (t .try-criterion .ensures)
 
 pub step-spec : {M : Type 1} → statement M

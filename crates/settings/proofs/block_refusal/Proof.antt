@@ -21,9 +21,11 @@ module _ (s : tie.Start) where
   abbrev within : Bool
   within = withinCeiling (2 ^ s .args .m) (s .args .ceiling) (now (s .args .llr))
 
-  number : blockNumber (s .args .m) (s .args .ceiling) (now (s .args .mask)) (now (s .args .llr)) ≡ firstRefusal code-number (check within 10 0)
+  number : blockNumber (s .args .m) (s .args .ceiling) (now (s .args .mask)) (now (s .args .llr))
+      ≡ firstRefusal code-number (check within 10 0)
   number =
-      block-tests (record { m = s .args .m }) (s .args .ceiling) (now (s .args .mask)) (now (s .args .llr)) (s .pre .0 .0) (s .pre .0 .1) (s .pre .1 .0) (s .pre .1 .1)
+      block-tests (record { m = s .args .m }) (s .args .ceiling) (now (s .args .mask)) (now (s .args .llr))
+      (s .pre .0 .0) (s .pre .0 .1) (s .pre .1 .0) (s .pre .1 .1)
 
 module _ (c : tie.After-within-ceiling) where
   abbrev told : tie.After-enum-told

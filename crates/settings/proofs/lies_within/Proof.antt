@@ -8,7 +8,12 @@ both-requires : tie.Need-both-requires
 both-requires c κs = search needs
 
 returns : tie.Need-returns
-returns c = simp (toZ-ofZ (c .before .fits .low), toZ-ofZ (c .before .fits .high), toZ-ofZ (c .before .fits .value)) at (c .both .ensures)
+returns c =
+    simp (
+      toZ-ofZ (c .before .fits .low),
+      toZ-ofZ (c .before .fits .high),
+      toZ-ofZ (c .before .fits .value),
+    ) at (c .both .ensures)
 
 pub lies-within-spec : {M : Type 1} → statement M
 lies-within-spec = tie.close (tie.spec both-requires returns)

@@ -33,7 +33,8 @@ returns-4 : tie.Need-returns-4
 returns-4 c =
     let a = c .before .before .args in
     let others = c .before .match .rest in
-    c .between2 .ensures ∙ past-two (a .ceiling) (a .criterion) (a .operand) (others .0 .0 .1) (others .0 .1) (others .1)
+    c .between2 .ensures
+    ∙ past-two (a .ceiling) (a .criterion) (a .operand) (others .0 .0 .1) (others .0 .1) (others .1)
 
 pub operand-fits-spec : {M : Type 1} → statement M
 operand-fits-spec = tie.close (tie.spec between-requires between-requires-2 returns returns-2 returns-3 returns-4)

@@ -22,7 +22,9 @@ module _ (c : tie.After-enum-told) where
   accepted = settings-accepted (start .args .settings) passed
 
   abbrev fits : Bool
-  fits = slicesFit (start .args .settings .m) (length (now (start .args .mask))) (length (now (start .args .llr))) (start .args .lengths)
+  fits =
+      slicesFit (start .args .settings .m) (length (now (start .args .mask))) (length (now (start .args .llr)))
+      (start .args .lengths)
 
 long : (c : tie.Then1) → fits (c .before .before) ≡ true
 long c = sym (c .before .slices-fit .ensures) ∙ c .if1 .taken

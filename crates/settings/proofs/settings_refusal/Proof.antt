@@ -66,7 +66,12 @@ returns-4 : tie.Need-returns-4
 returns-4 c =
     let e3 = c .before .before in
     let e2 = e3 .before .before in
-    simp (block (e2 .before .before), ceiling e2, scale e3, sym (c .before .between4 .ensures) ∙ not-true _ (c .if4 .taken))
+    simp (
+      block (e2 .before .before),
+      ceiling e2,
+      scale e3,
+      sym (c .before .between4 .ensures) ∙ not-true _ (c .if4 .taken),
+    )
 
 returns-5 : tie.Need-returns-5
 returns-5 c =

@@ -52,7 +52,14 @@ returns c =
     let b2 = b3 .before in
     let b1 = b2 .before in
     c .both6 .ensures
-    ∙ rw (b5 .both5 .ensures, b4 .both4 .ensures, b3 .both3 .ensures, b2 .both2 .ensures, b1 .both .ensures, b1 .before .power-of-two .ensures)
+    ∙ rw (
+      b5 .both5 .ensures,
+      b4 .both4 .ensures,
+      b3 .both3 .ensures,
+      b2 .both2 .ensures,
+      b1 .both .ensures,
+      b1 .before .power-of-two .ensures,
+    )
 
 pub slices-fit-spec : {M : Type 1} → statement M
 slices-fit-spec =

@@ -57,8 +57,15 @@ loop-again c =
     let s = at .before in
     let C = s .args .ceiling in
     let z = getD (s .args .llr .now) (at .loop .i) (pos 0) in
-    let told = simp (ceiling-known s, minus-held (pos C) (omega arith), kept z (arg .lies-within-arg .given)) at (c .before .lies-within .ensures) in
-    (omega arith, c .both .ensures ∙ within-next (at .loop .i) C (s .args .llr .now) (at .loop .inv .1) (told ∙ lies-within C z))
+    let told = simp (
+      ceiling-known s,
+      minus-held (pos C) (omega arith),
+      kept z (arg .lies-within-arg .given),
+    ) at (c .before .lies-within .ensures) in (
+      omega arith,
+      c .both .ensures
+          ∙ within-next (at .loop .i) C (s .args .llr .now) (at .loop .inv .1) (told ∙ lies-within C z),
+    )
 
 returns : tie.Need-returns Inv-loop μ-loop
 returns c = let e : c .before .loop .i ≡ c .before .before .args .n = omega arith in rw e at (c .before .loop .inv .1)

@@ -12,8 +12,10 @@ single-requires c κs = search needs
 
 plus-requires : tie.Need-plus-requires
 plus-requires c κs =
-    let s = c .before in
-    (usable (s .args .self) (s .pre .0), rw (c .single .ensures) (single-usable (resultOf (s .args .outcome)) (s .pre .1)))
+    let s = c .before in (
+      usable (s .args .self) (s .pre .0),
+      rw (c .single .ensures) (single-usable (resultOf (s .args .outcome)) (s .pre .1)),
+    )
 
 returns : tie.Need-returns
 returns c =

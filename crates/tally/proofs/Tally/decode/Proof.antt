@@ -12,7 +12,9 @@ use Rattle.tally.proofs.Tally.decode.Tie as tie
 
 -- the slices as they were lent
 abbrev lent : tie.Start → Slices
-lent c = let a = c .args in slices (now (a .soft)) (now (a .mark)) (now (a .coded-soft)) (now (a .coded-mark)) (now (a .work))
+lent c =
+    let a = c .args in
+    slices (now (a .soft)) (now (a .mark)) (now (a .coded-soft)) (now (a .coded-mark)) (now (a .work))
 
 module _ (c : tie.After-decode) where
   abbrev tested : tie.Else1
@@ -23,6 +25,10 @@ module _ (c : tie.After-decode) where
 
   passed : tallyNumber (start .args .self) ≡ 0
   passed = omega (arith, tested .before .number .ensures, tested .if1 .left)
+
+module _ (c : tie.After-work) where
+  abbrev decoded : tie.After-decode
+  decoded = c .before .before .before .before .before .before .before
 
 number-requires : tie.Need-number-requires
 number-requires c κs = search needs
@@ -40,7 +46,7 @@ decode-requires c κs = search needs
 
 counted-requires : tie.Need-counted-requires
 counted-requires c κs =
-    let d = c .before .before .before .before .before .before .before in
+    let d = decoded c in
     let a = start d .args in (
       passed d,
       answered (a .self) (a .settings) (now (a .mask)) (now (a .llr)) (lent (start d)) (d .decode .ensures),
@@ -63,7 +69,7 @@ same-length-5 c = search needs
 
 returns-2 : tie.Need-returns-2
 returns-2 c =
-    let d = c .before .before .before .before .before .before .before .before in
+    let d = decoded (c .before) in
     let a = start d .args in
     tallied-decoded (a .self) (a .settings) (now (a .mask)) (now (a .llr)) (lent (start d))
     (d .decode .ensures) (passed d) (c .counted .ensures)

@@ -50,7 +50,8 @@ returns-4 c = sym (unusable-number (given (c .before .before .before .before)) (
 returns-5 : tie.Need-returns-5
 returns-5 c =
     sym (usable-number (given (c .before .before .before .before))
-    (record { blocks-lt = omega arith; blocks-sum = omega arith; iterations-low = omega arith; iterations-high = omega arith }))
+    (record
+    { blocks-lt = omega arith; blocks-sum = omega arith; iterations-low = omega arith; iterations-high = omega arith }))
 
 pub number-spec : {M : Type 1} → statement M
 number-spec =
