@@ -9,7 +9,7 @@ use native.Mathlib.Omega.{arith}
 use borrow.Author.Tests.{not-true, eqb-false}
 use lib.Dec.{eqb}
 use lib.ListN.{length, getD}
-use Rattle.calls.specs.Bounds.{largestM}
+use Rattle.calls.specs.Bounds.{largestM, mostPositions}
 use Rattle.calls.specs.Memory.{overwrite}
 use Rattle.calls.specs.MemoryLaws.{length-overwrite, overwrite-at}
 use Rattle.calls.specs.Bits.{byteOf, bitOf}
@@ -28,7 +28,7 @@ pub coded-tie-fails : (m : ℕ) (mark codedMark : ℕ → ℕ) → untied (2 ^ m
     → false ≡ gMatrix m mark codedMark
 coded-tie-fails m mark codedMark e = rw (e, and-false)
 
-pub room : (m : ℕ) → m ≤ largestM → 2 ^ m ≤ 1024
+pub room : (m : ℕ) → m ≤ largestM → 2 ^ m ≤ mostPositions
 room m h = pow-le-pow-right {n = 2} (omega arith) h
 
 byte-eqb : (b : Bool) (k : ℕ) → k ≤ 1 → eqb (byteOf b) k ≡ Bool·beq b (bitOf k)

@@ -15,6 +15,7 @@ ghost use Rattle.calls.specs.Every.{every};
 ghost use Rattle.criteria.specs.Criteria.{untied, gMatrix, leastSize, sameMarks};
 ghost use Rattle.criteria.specs.Memory.{steadyNext, countFor, nothing, memoryNext, holdsNow};
 ghost use Rattle.criteria.specs.Private.{SoftValues, MarkBytes, MemoryInRange, CriterionTried};
+use calls::MOST_POSITIONS;
 
 // The criterion that ends the decoding. A later criterion joins them here.
 pub enum Criterion {
@@ -139,7 +140,7 @@ pub fn g_matrix(m: u32, marks: &[u8], coded: &[u8]) -> bool
     if !untied(coded, n) {
         return false;
     }
-    let mut bits = [0u8; 1024];
+    let mut bits = [0u8; MOST_POSITIONS];
     copy(marks, n, &mut bits);
     polar::transform(&mut bits, m);
     equal(&bits, coded, n)

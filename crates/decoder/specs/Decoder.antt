@@ -73,12 +73,12 @@ pub record Ending : Type 0 where
 -- the first iteration from t on where the criterion holds, with reason 1; if there is none among it and the n
 -- behind it, the last, with reason 2
 abbrev pub endingFrom : (ℕ → Bool) → ℕ → ℕ → Ending
-endingFrom held t zero = cond (held t) (record { iteration = t; reason = 1 }) (record { iteration = t; reason = 2 })
-endingFrom held t (suc n) = cond (held t) (record { iteration = t; reason = 1 }) (endingFrom held (suc t) n)
+endingFrom holdsAt t zero = cond (holdsAt t) (record { iteration = t; reason = 1 }) (record { iteration = t; reason = 2 })
+endingFrom holdsAt t (suc n) = cond (holdsAt t) (record { iteration = t; reason = 1 }) (endingFrom holdsAt (suc t) n)
 
 -- from 1 to the limit T
 abbrev pub endingOf : (ℕ → Bool) → ℕ → Ending
-endingOf held T = endingFrom held 1 (T - 1)
+endingOf holdsAt T = endingFrom holdsAt 1 (T - 1)
 
 unfoldable pub ending : Settings → List ℕ → List ℤ → List ℤ → Ending
 ending s mask llr old =

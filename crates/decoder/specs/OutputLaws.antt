@@ -1,12 +1,13 @@
 -- Laws of the outputs: the size of a soft output, how a turned sign comes out of it, and slices that
 -- take the outputs of a workspace.
-use Prim.Native.Nat.{ℕ, _^_, _≤_}
+use Prim.Native.Nat.{ℕ, _^_, _≤_, _<_}
 use mathlib.Core.Path.{_≡_, refl, sym, subst}
 use mathlib.Core.Bool.{Bool, false}
 use mathlib.Core.List.{List}
+use native.Mathlib.Omega.{arith}
 use lib.IntN.{ℤ, natAbs}
-use lib.ListN.{length}
-use Rattle.calls.specs.MemoryLaws.{length-overwrite, overwrite-twice}
+use lib.ListN.{length, getD}
+use Rattle.calls.specs.MemoryLaws.{length-overwrite, overwrite-at, overwrite-twice}
 use Rattle.calls.specs.Signs.{flipped}
 use Rattle.message.specs.declared.MinSum.{MinSum}
 use Rattle.message.specs.MessageLaws.{add-size, add-flipped}
@@ -36,7 +37,12 @@ module _ (s : Settings) (mask : List ℕ) where
       slices-same (overwrite-twice (2 ^ s .m) _ _ (old .soft)) (overwrite-twice (2 ^ s .m) _ _ (old .mark))
       (overwrite-twice (2 ^ s .m) _ _ (old .codedSoft)) (overwrite-twice (2 ^ s .m) _ _ (old .codedMark)) refl
 
-  -- and keep every length
+  -- the mark slice then holds the marks of the workspace, as `step` asks for those of the iteration before
+  pub outputs-marks : (w : List ℤ) (old : Slices) → OutputsFit (2 ^ s .m) old → (i : ℕ) → i < 2 ^ s .m
+      → getD (outputsOf s mask w old .mark) i 0 ≡ markAt s mask w i
+  outputs-marks w old fits i l = overwrite-at (2 ^ s .m) (markAt s mask w) (old .mark) i 0 l (omega (arith, fits .mark))
+
+  -- every length stays
   pub outputs-lengths : (w : List ℤ) (old : Slices) → length w ≡ length (old .work)
       → lengthsOf (outputsOf s mask w old) ≡ lengthsOf old
   outputs-lengths w old same i =

@@ -56,13 +56,13 @@ either : {low high : ℕ} {a b : Ending} (test : Bool) → EndsWithin low high a
 either true l r = l
 either false l r = r
 
-ending-from : (held : ℕ → Bool) (n a : ℕ) → EndsWithin a (a + n) (endingFrom held a n)
-ending-from held zero a =
-    either (held a) (here a 1 (omega arith) (omega arith) (omega arith) (omega arith))
+ending-from : (holdsAt : ℕ → Bool) (n a : ℕ) → EndsWithin a (a + n) (endingFrom holdsAt a n)
+ending-from holdsAt zero a =
+    either (holdsAt a) (here a 1 (omega arith) (omega arith) (omega arith) (omega arith))
     (here a 2 (omega arith) (omega arith) (omega arith) (omega arith))
-ending-from held (suc n) a =
-    let later = ending-from held n (suc a) in
-    either (held a) (here a 1 (omega arith) (omega arith) (omega arith) (omega arith))
+ending-from holdsAt (suc n) a =
+    let later = ending-from holdsAt n (suc a) in
+    either (holdsAt a) (here a 1 (omega arith) (omega arith) (omega arith) (omega arith))
     (here _ _ (omega arith) (omega arith) (later .reason-some) (later .reason-le))
 
 -- ---- the number

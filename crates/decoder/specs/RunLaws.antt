@@ -23,7 +23,7 @@ use Rattle.settings.specs.Slices.{Slices, lengthsOf}
 use Rattle.settings.specs.SlicesLaws.{OutputsFit}
 use Rattle.decoder.specs.Decoder.{ruleOf, softAt, markAt, codedMarkAt, criterionOf, after, ending}
 use Rattle.decoder.specs.EndingLaws.{ending-found, ending-last}
-use Rattle.decoder.specs.OutputLaws.{outputs-again, outputs-lengths}
+use Rattle.decoder.specs.OutputLaws.{outputs-again, outputs-marks, outputs-lengths}
 use Rattle.decoder.specs.Run.{
   workAfter,
   softAfter,
@@ -135,7 +135,7 @@ module _ (s : Settings) (mask : List ℕ) where
   pub slices-marks : (t : ℕ) (first : Slices) → OutputsFit (2 ^ s .m) first → 1 ≤ t → (i : ℕ) → i < 2 ^ s .m
       → getD (slicesAfter s mask t first .mark) i 0 ≡ markAt s mask (slicesAfter s mask t first .work) i
   slices-marks zero first fits some i l = absurd (omega arith)
-  slices-marks (suc t) first fits some i l = overwrite-at (2 ^ s .m) _ (first .mark) i 0 l (omega (arith, fits .mark))
+  slices-marks (suc t) first fits some i l = outputs-marks s mask (workAfter s mask (first .work) (suc t)) first fits i l
 
 -- ---- `decode` is the run from the start
 

@@ -6,6 +6,7 @@ use borrow.Author.Needs.{needs}
 use borrow.Author.Tests.{not-true, not-false}
 use denote.Ref.{now}
 use lib.ListN.{getD, replicate}
+use Rattle.calls.specs.Bounds.{mostPositions}
 use Rattle.criteria.specs.Criteria.{untied}
 use Rattle.criteria.proofs.Matrix.{
   tie-fails,
@@ -50,7 +51,7 @@ module _ (c : tie.After-copy) where
 
   copied : Holds (entry .args .m) (now (entry .args .marks)) (c .copy .last .1 .1 .0)
   copied =
-      copied-holds (replicate 1024 0) _ (entry .pre .1 .0) (marks-clear clear) (room (entry .args .m) (entry .pre .0))
+      copied-holds (replicate mostPositions 0) _ (entry .pre .1 .0) (marks-clear clear) (room (entry .args .m) (entry .pre .0))
       (rw (length-is (powered clear)) at (c .copy .ensures))
 
 power-of-two-requires : tie.Need-power-of-two-requires
