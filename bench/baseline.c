@@ -1,5 +1,6 @@
-/* The hand-tuned baseline of the benchmark: message passing as document 01 defines it, in block loops that the compiler vectorises, with the
-   distances 1, 2, 4 and 8 as constants. Built with -O3. It tests nothing: the benchmark hands it blocks that the proved decoder accepts. */
+/* The hand-tuned baseline of the benchmark: message passing as document 01 defines it, in block loops that the
+   compiler vectorises, with the distances 1, 2, 4 and 8 as constants. Built with -O3. It tests nothing: the benchmark
+   hands it blocks that the proved decoder accepts. */
 #include <stddef.h>
 #include <stdint.h>
 #include <string.h>
@@ -14,7 +15,8 @@ ALWAYS int16_t add(int16_t a, int16_t b, int16_t top) {
     return greater(smaller((int16_t)(a + b), top), (int16_t)-top);
 }
 
-/* k sixteenths of the smaller size, with the product of the signs; both sizes are at most 2047 and k at most 16, so the product fits */
+/* k sixteenths of the smaller size, with the product of the signs; both sizes are at most 2047 and k at most 16, so
+   the product fits */
 ALWAYS int16_t f(int16_t a, int16_t b, int16_t k) {
     int16_t size = smaller((int16_t)(a < 0 ? -a : a), (int16_t)(b < 0 ? -b : b));
     int16_t scaled = (int16_t)((uint16_t)(size * k) >> 4);
@@ -23,7 +25,8 @@ ALWAYS int16_t f(int16_t a, int16_t b, int16_t k) {
 }
 
 /* one step over the distance d, both sides of each pair */
-ALWAYS void pairs(int16_t *restrict out, const int16_t *restrict x, const int16_t *restrict y, size_t n, size_t d, int16_t top, int16_t k) {
+ALWAYS void pairs(int16_t *restrict out, const int16_t *restrict x, const int16_t *restrict y, size_t n,
+                  size_t d, int16_t top, int16_t k) {
     for (size_t p = 0; p < n; p += 2 * d) {
         for (size_t i = 0; i < d; i++) {
             int16_t xu = x[p + i], xl = x[p + d + i], yu = y[p + i], yl = y[p + d + i];
@@ -53,7 +56,8 @@ static void iterate(int16_t *work, unsigned m, int16_t top, int16_t k) {
 }
 
 /* the soft values of a column and their marks */
-static void sums(const int16_t *restrict left, const int16_t *restrict right, size_t n, int16_t top, int16_t *restrict soft, uint8_t *restrict mark) {
+static void sums(const int16_t *restrict left, const int16_t *restrict right, size_t n, int16_t top,
+                 int16_t *restrict soft, uint8_t *restrict mark) {
     for (size_t i = 0; i < n; i++) {
         int16_t v = add(left[i], right[i], top);
         soft[i] = v;
@@ -61,7 +65,8 @@ static void sums(const int16_t *restrict left, const int16_t *restrict right, si
     }
 }
 
-static void outputs(const int16_t *work, unsigned m, int16_t top, int16_t *soft, uint8_t *mark, int16_t *coded_soft, uint8_t *coded_mark) {
+static void outputs(const int16_t *work, unsigned m, int16_t top, int16_t *soft, uint8_t *mark,
+                    int16_t *coded_soft, uint8_t *coded_mark) {
     size_t n = (size_t)1 << m;
     sums(work, work + (m + 1) * n, n, top, soft, mark);
     sums(work + m * n, work + (m + 1) * n + m * n, n, top, coded_soft, coded_mark);
@@ -84,7 +89,8 @@ static int g_matrix(unsigned m, const uint8_t *mark, const uint8_t *coded_mark) 
 }
 
 /* criterion 0 or 1; returns the iteration at which it ends */
-uint32_t baseline_decode(unsigned m, int16_t top, int16_t k, uint32_t limit, uint32_t criterion, const uint8_t *mask, const int16_t *llr, int16_t *soft,
+uint32_t baseline_decode(unsigned m, int16_t top, int16_t k, uint32_t limit, uint32_t criterion,
+                         const uint8_t *mask, const int16_t *llr, int16_t *soft,
                          uint8_t *mark, int16_t *coded_soft, uint8_t *coded_mark, int16_t *work) {
     size_t n = (size_t)1 << m;
     memset(work, 0, 2 * (m + 1) * n * sizeof *work);

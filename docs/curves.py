@@ -1,5 +1,5 @@
 #!/usr/bin/env python3
-"""Draws curves.svg from curves.csv: frame error rate and iterations of the proved decoder over Eb/N0, for each criterion.
+"""Draws curves.svg from curves.csv: frame error rate and iterations of the proved decoder over Eb/N0, by criterion.
 
 The data: bench/run curves > docs/curves.csv. Standard library only.
 """
@@ -46,7 +46,9 @@ class Panel:
         return HEIGHT - BOTTOM - (value - low) / (high - low) * (HEIGHT - TOP - BOTTOM)
 
     def text(self, x, y, text, anchor="middle", size=12, weight="normal"):
-        self.parts.append(f'<text x="{x:.1f}" y="{y:.1f}" text-anchor="{anchor}" font-size="{size}" font-weight="{weight}" fill="#222">{text}</text>')
+        self.parts.append(
+            f'<text x="{x:.1f}" y="{y:.1f}" text-anchor="{anchor}" font-size="{size}" font-weight="{weight}" '
+            f'fill="#222">{text}</text>')
 
     def line(self, x1, y1, x2, y2, colour="#dddddd"):
         self.parts.append(f'<line x1="{x1:.1f}" y1="{y1:.1f}" x2="{x2:.1f}" y2="{y2:.1f}" stroke="{colour}"/>')
@@ -66,8 +68,10 @@ class Panel:
         """Curves that coincide stay visible: each is drawn thinner than the one beneath it."""
         places = [(self.x(db), self.y(value)) for db, value in points]
         path = " ".join(f"{x:.1f},{y:.1f}" for x, y in places)
-        self.parts.append(f'<polyline points="{path}" fill="none" stroke="{colour}" stroke-width="{width}" stroke-linejoin="round"/>')
-        self.parts += [f'<circle cx="{x:.1f}" cy="{y:.1f}" r="{width / 2 + 1.2:.1f}" fill="{colour}"/>' for x, y in places]
+        self.parts.append(
+            f'<polyline points="{path}" fill="none" stroke="{colour}" stroke-width="{width}" stroke-linejoin="round"/>')
+        radius = width / 2 + 1.2
+        self.parts += [f'<circle cx="{x:.1f}" cy="{y:.1f}" r="{radius:.1f}" fill="{colour}"/>' for x, y in places]
 
 
 def main():
@@ -86,11 +90,14 @@ def main():
         iterations.curve([(db, total / blocks) for db, blocks, _, total in points], colour, width)
         operand = f", operand {operands[criterion]}" if operands[criterion] != "0" else ""
         x, y = 36 + 230 * place, HEIGHT + 8
-        legend.append(f'<rect x="{x}" y="{y}" width="18" height="4" fill="{colour}"/><text x="{x + 24}" y="{y + 6}" font-size="11" fill="#222">{name}{operand}</text>')
+        legend.append(
+            f'<rect x="{x}" y="{y}" width="18" height="4" fill="{colour}"/>'
+            f'<text x="{x + 24}" y="{y + 6}" font-size="11" fill="#222">{name}{operand}</text>')
     body = "\n".join(errors.parts + iterations.parts + legend)
     width = 2 * WIDTH + 120
     (HERE / "curves.svg").write_text(
-        f'<svg xmlns="http://www.w3.org/2000/svg" viewBox="0 0 {width} {HEIGHT + 30}" width="{width}" height="{HEIGHT + 30}" font-family="sans-serif">\n'
+        f'<svg xmlns="http://www.w3.org/2000/svg" viewBox="0 0 {width} {HEIGHT + 30}" width="{width}" '
+        f'height="{HEIGHT + 30}" font-family="sans-serif">\n'
         f'<rect width="100%" height="100%" fill="white"/>\n{body}\n</svg>\n'
     )
 

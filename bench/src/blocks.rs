@@ -1,4 +1,5 @@
-//! Message passing in Rust, by loops over blocks of d positions that the compiler can vectorise. The distance is a variable.
+//! Message passing in Rust, by loops over blocks of d positions that the compiler can vectorise. The distance is a
+//! variable.
 
 fn add(a: i16, b: i16, top: i16) -> i16 {
     (a + b).min(top).max(-top)

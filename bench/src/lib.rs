@@ -1,4 +1,5 @@
-//! What the benchmark and the curves share: blocks to decode, the proved decoder behind its C interface, and the others.
+//! What the benchmark and the curves share: blocks to decode, the proved decoder behind its C interface, and the
+//! others.
 pub mod blocks;
 pub mod noise;
 pub mod plain;

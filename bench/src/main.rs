@@ -1,4 +1,5 @@
-//! The proved decoder against others, side by side in one run: each round runs every decoder once, and a figure is the best or the median of all rounds.
+//! The proved decoder against others, side by side in one run: each round runs every decoder once, and a figure is
+//! the best or the median of all rounds.
 use bench::noise::Random;
 use bench::{baseline, blocks, lent, noisy, plain, proved, Block, Lent};
 use std::time::Instant;
@@ -49,7 +50,10 @@ fn iteration_times(block: &Block, rounds: usize, limit: u32) -> [(f64, f64); 4] 
 }
 
 fn iteration_table(random: &mut Random) {
-    println!("One iteration at m = 10 under criterion 0 (ns; best and median of 60 rounds of 200 iterations; ratio of the best to the baseline's)");
+    println!(
+        "One iteration at m = 10 under criterion 0 (ns; best and median of 60 rounds of 200 iterations; \
+         ratio of the best to the baseline's)"
+    );
     let block = noisy(10, 2.5, random);
     let figures = iteration_times(&block, 60, 200);
     for (name, (best, median)) in NAMES.iter().zip(figures) {
@@ -82,7 +86,10 @@ fn growth_table(random: &mut Random) {
 }
 
 fn block_table(random: &mut Random) {
-    println!("\n(1024,512) blocks at 2.5 dB under criterion 1, limit 50 (best of 9 rounds of 300 blocks): blocks per second, iterations, frame errors");
+    println!(
+        "\n(1024,512) blocks at 2.5 dB under criterion 1, limit 50 (best of 9 rounds of 300 blocks): \
+         blocks per second, iterations, frame errors"
+    );
     let blocks: Vec<Block> = (0..300).map(|_| noisy(10, 2.5, random)).collect();
     let mut to = lent(10);
     let decoders = [

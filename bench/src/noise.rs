@@ -1,4 +1,5 @@
-//! Blocks to decode: a mask, and LLRs of the all-zero message after a Gaussian channel. How well a block is decoded doesn't depend on the message.
+//! Blocks to decode: a mask, and LLRs of the all-zero message after a Gaussian channel. How well a block is decoded
+//! doesn't depend on the message.
 
 /// A small generator of random numbers (splitmix64).
 pub struct Random(pub u64);
@@ -46,8 +47,9 @@ fn mean_of(doubtful: f64) -> f64 {
     low
 }
 
-/// A mask of rate one half, by the Gaussian approximation at a design signal-to-noise ratio: the positions with the largest means carry the message.
-/// The decoder's graph has distance N/2 at the message side, so the usual order is taken with the digits of the position reversed.
+/// A mask of rate one half, by the Gaussian approximation at a design signal-to-noise ratio: the positions with the
+/// largest means carry the message. The decoder's graph has distance N/2 at the message side, so the usual order is
+/// taken with the digits of the position reversed.
 pub fn mask(m: usize, design_db: f64) -> Vec<u8> {
     let n = 1usize << m;
     let mut means = vec![2.0 * 10f64.powf(design_db / 10.0)];
@@ -66,7 +68,8 @@ pub fn mask(m: usize, design_db: f64) -> Vec<u8> {
     mask
 }
 
-/// LLRs at a ratio Eb/N0, for a code of rate one half: the exact ones, 2/σ² times the sample, times `times`, as whole numbers.
+/// LLRs at a ratio Eb/N0, for a code of rate one half: the exact ones, 2/σ² times the sample, times `times`, as whole
+/// numbers.
 pub fn llrs(n: usize, db: f64, times: f64, ceiling: i16, random: &mut Random) -> Vec<i16> {
     let variance = 10f64.powf(-db / 10.0);
     let top = f64::from(ceiling);

@@ -1,4 +1,5 @@
-//! Message passing in Rust as one would first write it: a test for each position, and the checks of the language on each index.
+//! Message passing in Rust as one would first write it: a test for each position, and the checks of the language on
+//! each index.
 
 fn add(a: i16, b: i16, top: i16) -> i16 {
     (a + b).clamp(-top, top)

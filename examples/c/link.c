@@ -27,8 +27,9 @@ static int32_t next_number(uint32_t *state)
 }
 
 /*
- * What the receiver hears: 1 for a coded 0, -1 for a coded 1, and noise. The noise is a sum of six numbers from -1/2 to 1/2, so its standard
- * deviation is about 0.71. All of it is counted in whole 65536ths, so that the samples are the same on every machine.
+ * What the receiver hears: 1 for a coded 0, -1 for a coded 1, and noise. The noise is a sum of six numbers from -1/2
+ * to 1/2, so its standard deviation is about 0.71. All of it is counted in whole 65536ths, so that the samples are the
+ * same on every machine.
  */
 static void channel(const uint8_t *block, float *samples)
 {

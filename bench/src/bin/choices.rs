@@ -1,5 +1,6 @@
-//! What the choices of a user do to the proved decoder: factor, scale, ceiling and the order of the mask, on the same (1024,512) blocks at 2.5 dB under
-//! criterion 1 with a limit of 50. Prints the frame error rate and the iterations on average.
+//! What the choices of a user do to the proved decoder: factor, scale, ceiling and the order of the mask, on the same
+//! (1024,512) blocks at 2.5 dB under criterion 1 with a limit of 50. Prints the frame error rate and the iterations
+//! on average.
 use bench::noise::{self, Random};
 use bench::{lent, proved, Block};
 

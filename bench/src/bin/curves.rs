@@ -1,5 +1,5 @@
-//! Frame error rate and iterations of the proved decoder over the signal-to-noise ratio, for each criterion, as comma-separated values. All criteria
-//! decode the same (1024,512) blocks; the limit is 50.
+//! Frame error rate and iterations of the proved decoder over the signal-to-noise ratio, for each criterion, as
+//! comma-separated values. All criteria decode the same (1024,512) blocks; the limit is 50.
 use bench::noise::{self, Random};
 use bench::{lent, proved, Block};
 
