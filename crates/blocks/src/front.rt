@@ -1,4 +1,5 @@
-// The channel front's blocks: the three kinds, with halves, both zeros and the ends of the format, then every one of its refusals.
+// The channel front's blocks: the three kinds, with halves, both zeros and the ends of the
+// format, then every one of its refusals.
 // The text of a line says what the samples are; an LLR slice is longer than its 2^m elements where a line ends in 9.
 use channel::Channel;
 

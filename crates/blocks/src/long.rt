@@ -1,4 +1,5 @@
-// Blocks too long to write out: their masks and messages follow a rule, and the longest is shown by its ends and a checksum.
+// Blocks too long to write out: their masks and messages follow a rule, and the longest is
+// shown by its ends and a checksum.
 ghost use Prim.Native.Nat.{_<_};
 use crate::encoding;
 use polar::Code;

@@ -1,4 +1,5 @@
-// Small blocks through the coder, the read-out and the channel front, as they are compiled, with every refusal of the three.
+// Small blocks through the coder, the read-out and the channel front, as they are compiled,
+// with every refusal of the three.
 // A line for each call gives what it is handed, the number of its answer, and the slice afterwards.
 mod encoding;
 mod front;

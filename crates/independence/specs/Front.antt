@@ -1,5 +1,5 @@
--- A front, as far as the message's part in the outcome goes: samples of some kind become LLRs in a lent slice, or are refused. Document 01's
--- takes one list of floats (`channelFront`). Definitions only.
+-- A front, as far as the message's part in the outcome goes: samples of some kind become LLRs in a lent slice, or are
+-- refused. Document 01's takes one list of floats (`channelFront`). Definitions only.
 use Prim.Native.Nat.{ℕ, _^_, _<_}
 use mathlib.Core.Path.{_≡_}
 use mathlib.Core.Bool.{Bool}
@@ -21,14 +21,16 @@ pub record Front (Samples : Type 0) : Type 0 where
   -- the samples with exactly those negated whose bit is 1
   pub flip : (ℕ → Bool) → Samples → Samples
 
--- a front that is odd in its samples, over N positions: negated samples change no refusal, and turn the signs of their LLRs
+-- a front that is odd in its samples, over N positions: negated samples change no refusal,
+-- and turn the signs of their LLRs
 pub record OddFront {Samples : Type 0} (N : ℕ) (front : Front Samples) : Type 0 where
   pub number-same : (bit : ℕ → Bool) (samples : Samples) (room : ℕ)
       → front .number (front .flip bit samples) room ≡ front .number samples room
   pub length-same : (samples : Samples) (old : List ℤ) → length (front .llrs samples old) ≡ length old
   pub llrs-flip : (bit : ℕ → Bool) (samples : Samples) (old old′ : List ℤ) → length old ≡ length old′
       → front .number samples (length old) ≡ 0 → (i : ℕ) → i < N
-      → getD (front .llrs (front .flip bit samples) old′) i (pos 0) ≡ flipped (bit i) (getD (front .llrs samples old) i (pos 0))
+      → getD (front .llrs (front .flip bit samples) old′) i (pos 0)
+      ≡ flipped (bit i) (getD (front .llrs samples old) i (pos 0))
 
 -- the front of document 01: a channel of one of the three kinds, with the decoder's m and C
 abbrev pub channelFront : Settings → Channel → Front (List Float)

@@ -1,5 +1,5 @@
--- Document 01, "Message and outcome", whole: from samples to marks, how well a block is decoded does not depend on the message sent. First for
--- any front that is odd in its samples, then for document 01's.
+-- Document 01, "Message and outcome", whole: from samples to marks, how well a block is decoded does not depend on the
+-- message sent. First for any front that is odd in its samples, then for document 01's.
 use Prim.Native.Nat.{ℕ, _^_, _<_}
 use mathlib.Core.Path.{_≡_, sym, ap, _∙_}
 use mathlib.Core.Bool.{Bool, false}
@@ -9,7 +9,6 @@ use lib.ListN.{length, getD}
 use lib.Ieee.{Float}
 use Rattle.calls.specs.Bits.{bitOf}
 use Rattle.calls.specs.Signs.{flipped}
-use Rattle.polar.specs.declared.Code.{Code}
 use Rattle.polar.specs.Code.{uBit, coded, encodeNumber, encodeBlock}
 use Rattle.channel.specs.declared.Channel.{Channel}
 use Rattle.settings.specs.declared.Settings.{Settings}
@@ -41,7 +40,8 @@ pub record SameLengths (a b : Lent) : Type 0 where
   pub slices : lengthsOf (a .slices) ≡ lengthsOf (b .slices)
 
 -- one run: the front on the samples, and the decoder on the LLRs that the front has just written
-module _ {Samples : Type 0} (front : Front Samples) (s : Settings) (mask : List ℕ) (samples : Samples) (lent : Lent) where
+module _ {Samples : Type 0} (front : Front Samples) (s : Settings) (mask : List ℕ) (samples : Samples)
+    (lent : Lent) where
   abbrev pub frontOf : ℕ
   frontOf = front .number samples (length (lent .llr))
 
@@ -67,7 +67,8 @@ module _ {Samples : Type 0} (front : Front Samples) (s : Settings) (mask : List 
   codedMarksOf i = getD (decodeSlices s mask llrsOf (lent .slices) .codedMark) i 0
 
 -- the second run beside the first
-module _ {Samples : Type 0} (front : Front Samples) (s : Settings) (mask message block : List ℕ) (samples : Samples) (first second : Lent) where
+module _ {Samples : Type 0} (front : Front Samples) (s : Settings) (mask message block : List ℕ) (samples : Samples)
+    (first second : Lent) where
   -- u and its coded bits, for which marks and coded marks stand; and the block sent, in whatever slice
   abbrev u : ℕ → Bool
   u = uBit mask message
@@ -89,9 +90,12 @@ module _ {Samples : Type 0} (front : Front Samples) (s : Settings) (mask message
   pub record Alike : Type 0 where
     -- where the front refuses one run, it refuses the other with the same number
     pub fronts : frontOf front s mask other second ≡ frontOf front s mask samples first
-    -- where the front accepts, the decoder gives both the same number, or ends both at the same iteration for the same reason
-    pub answers : frontOf front s mask samples first ≡ 0 → answerOf front s mask other second ≡ answerOf front s mask samples first
-    -- where both accept: each soft output of the second run is minus that of the first where its bit is 1, and equal elsewhere
+    -- where the front accepts, the decoder gives both the same number, or ends both at the
+    -- same iteration for the same reason
+    pub answers : frontOf front s mask samples first ≡ 0
+        → answerOf front s mask other second ≡ answerOf front s mask samples first
+    -- where both accept: each soft output of the second run is minus that of the first where
+    -- its bit is 1, and equal elsewhere
     pub soft : Accepted → (i : ℕ) → i < 2 ^ s .m
         → softOf front s mask other second i ≡ flipped (u i) (softOf front s mask samples first i)
     pub codedSoft : Accepted → (i : ℕ) → i < 2 ^ s .m
@@ -100,20 +104,25 @@ module _ {Samples : Type 0} (front : Front Samples) (s : Settings) (mask message
     pub marks : Accepted → (i : ℕ) → i < 2 ^ s .m
         → marksOf front s mask other second i ≡ flippedMark (u i) (marksOf front s mask samples first i)
     pub codedMarks : Accepted → (i : ℕ) → i < 2 ^ s .m
-        → codedMarksOf front s mask other second i ≡ flippedMark (codedBit i) (codedMarksOf front s mask samples first i)
-    -- so a position is right, wrong or tied in the second run, judged by u and its coded bits, as it is in the first, judged by zeros
+        → codedMarksOf front s mask other second i
+        ≡ flippedMark (codedBit i) (codedMarksOf front s mask samples first i)
+    -- so a position is right, wrong or tied in the second run, judged by u and its coded bits, as it
+    -- is in the first, judged by zeros
     pub verdicts : Accepted → (i : ℕ) → i < 2 ^ s .m
         → verdict (u i) (marksOf front s mask other second i) ≡ verdict false (marksOf front s mask samples first i)
     pub codedVerdicts : Accepted → (i : ℕ) → i < 2 ^ s .m
-        → verdict (codedBit i) (codedMarksOf front s mask other second i) ≡ verdict false (codedMarksOf front s mask samples first i)
+        → verdict (codedBit i) (codedMarksOf front s mask other second i)
+        ≡ verdict false (codedMarksOf front s mask samples first i)
 
-  -- for every m, mask and message that the coder accepts; every setting, accepted or not; any samples; and any lent slices, of the same lengths in
-  -- both runs
-  pub front-independence : OddFront (2 ^ s .m) front → encodeNumber (record { m = s .m }) mask message (length block) ≡ 0
+  -- for every m, mask and message that the coder accepts; every setting, accepted or not; any samples; and any lent
+  -- slices, of the same lengths in both runs
+  pub front-independence : OddFront (2 ^ s .m) front
+      → encodeNumber (record { m = s .m }) mask message (length block) ≡ 0
       → SameLengths first second → Alike
   front-independence odd accepted same =
       let calls : frontOf front s mask samples first ≡ 0
-      → Calls s mask u sent (llrsOf front s mask samples first) (llrsOf front s mask other second) (first .slices) (second .slices)
+      → Calls s mask u sent (llrsOf front s mask samples first) (llrsOf front s mask other second) (first .slices)
+      (second .slices)
       = λ ok. record {
         frozen = frozen-zero mask message;
         block = sent-coded (record { m = s .m }) mask message block accepted;
@@ -134,7 +143,8 @@ module _ {Samples : Type 0} (front : Front Samples) (s : Settings) (mask message
       }
 
 -- document 01's front: a Gaussian, flipping or erasing channel, accepted or not
-pub message-independence : (s : Settings) (channel : Channel) (mask message block : List ℕ) (samples : List Float) (first second : Lent)
+pub message-independence : (s : Settings) (channel : Channel) (mask message block : List ℕ) (samples : List Float)
+    (first second : Lent)
     → encodeNumber (record { m = s .m }) mask message (length block) ≡ 0 → SameLengths first second
     → Alike (channelFront s channel) s mask message block samples first second
 message-independence s channel mask message block samples first second =

@@ -1,5 +1,5 @@
--- What the two runs of Flips come to: they end alike, each soft output of the second is that of the first with its sign turned by its bit, and
--- so are the marks.
+-- What the two runs of Flips come to: they end alike, each soft output of the second is that of the first with its sign
+-- turned by its bit, and so are the marks.
 use Prim.Native.Nat.{ℕ, zero, suc, _^_, _<_}
 use mathlib.Core.Path.{_≡_, refl, ap, fun-ext}
 use mathlib.Core.Bool.{Bool, true, false}
@@ -29,15 +29,18 @@ verdict-flipped true (suc zero) = refl
 verdict-flipped true (suc (suc zero)) = refl
 verdict-flipped true (suc (suc (suc n))) = refl
 
-module _ (s : Settings) (mask : List ℕ) (u : ℕ → Bool) {llr llr′ old old′ : List ℤ} (runs : Runs (s .m) mask u llr llr′ old old′) where
+module _ (s : Settings) (mask : List ℕ) (u : ℕ → Bool) {llr llr′ old old′ : List ℤ}
+    (runs : Runs (s .m) mask u llr llr′ old old′) where
   pub ending-same : ending s mask llr′ old′ ≡ ending s mask llr old
   unfolding ending
   ending-same =
       ap (λ (held : ℕ → Bool). endingOf held (s .limit))
-      (fun-ext (holds-flipped (s .m) u mask _ _ _ _ (soft-flips s mask u runs) (codedSoft-flips s mask u runs) (criterionOf s)))
+      (fun-ext
+      (holds-flipped (s .m) u mask _ _ _ _ (soft-flips s mask u runs) (codedSoft-flips s mask u runs) (criterionOf s)))
 
   -- the soft outputs as they stand at the end
-  pub final-soft : (i : ℕ) → i < 2 ^ s .m → softAt s mask (final s mask llr′ old′) i ≡ flipped (u i) (softAt s mask (final s mask llr old) i)
+  pub final-soft : (i : ℕ) → i < 2 ^ s .m
+      → softAt s mask (final s mask llr′ old′) i ≡ flipped (u i) (softAt s mask (final s mask llr old) i)
   final-soft i l = rw ending-same (soft-flips s mask u runs (ending s mask llr old .iteration) i l)
 
   pub final-codedSoft : (i : ℕ) → i < 2 ^ s .m

@@ -1,7 +1,7 @@
--- From samples and lent slices to the two runs of Flips: the block sent, the LLRs of the front, and what two calls of the decoder with such
--- LLRs answer and leave.
+-- From samples and lent slices to the two runs of Flips: the block sent, the LLRs of the front, and what two calls of
+-- the decoder with such LLRs answer and leave.
 use Prim.Native.Nat.{ℕ, zero, suc, _^_, _≤_, _<_}
-use mathlib.Core.Path.{_≡_, refl, sym, ap, ap₂, _∙_, subst}
+use mathlib.Core.Path.{_≡_, refl, sym, ap, ap₂, _∙_}
 use mathlib.Core.Bool.{Bool, false, _&&_}
 use mathlib.Core.List.{List}
 use native.Mathlib.Omega.{arith}
@@ -22,11 +22,10 @@ use Rattle.polar.specs.Code.{uBit, informationCount, coded, encodeNumber, encod
 use Rattle.polar.specs.CodeLaws.{encode-accepted}
 use Rattle.polar.specs.Mask.{byKind}
 use Rattle.channel.specs.declared.Channel.{Channel}
-use Rattle.channel.specs.Front.{llrOf, frontNumber, frontLlrs}
+use Rattle.channel.specs.Front.{llrOf, frontNumber}
 use Rattle.channel.specs.FlippedSamples.{flippedSamples}
 use Rattle.channel.specs.FrontLaws.{llr-at-flipped, front-number-flipped}
 use Rattle.criteria.specs.Marks.{markOf}
-use Rattle.settings.specs.declared.Lengths.{Lengths}
 use Rattle.settings.specs.declared.Settings.{Settings}
 use Rattle.settings.specs.Settings.{decodeNumber}
 use Rattle.settings.specs.SettingsLaws.{accepted, number-flipped}
@@ -43,20 +42,25 @@ use Rattle.independence.specs.Outcome.{mark-flipped, ending-same, final-
 pub frozen-zero : (mask message : List ℕ) (i : ℕ) → (getD mask i 0 ≡ 0 → ⊥) → uBit mask message i ≡ false
 frozen-zero mask message i frozen = by-kind (getD mask i 0) refl
   where
-    by-kind : (n : ℕ) → getD mask i 0 ≡ n → byKind n (bitOf (getD message (informationCount mask i) 0)) (λ bit. bit) ≡ false
+    by-kind : (n : ℕ) → getD mask i 0 ≡ n
+        → byKind n (bitOf (getD message (informationCount mask i) 0)) (λ bit. bit) ≡ false
     by-kind zero e = absurd (frozen e)
     by-kind (suc n) e = refl
 
-pub sent-coded : (code : Code) (mask message block : List ℕ) → encodeNumber code mask message (length block) ≡ 0 → (i : ℕ) → i < 2 ^ code .m
+pub sent-coded : (code : Code) (mask message block : List ℕ) → encodeNumber code mask message (length block) ≡ 0
+    → (i : ℕ) → i < 2 ^ code .m
     → bitOf (getD (encodeBlock code mask message block) i 0) ≡ coded (code .m) (uBit mask message) i
 sent-coded code mask message block ok i h =
     let room = encode-accepted code mask message (length block) ok .0 .room-long in
-    ap bitOf (new-at (encodeNumber code mask message (length block)) (2 ^ code .m) (λ i. byteOf (coded (code .m) (uBit mask message) i)) block i 0 ok h room)
+    ap bitOf
+    (new-at (encodeNumber code mask message (length block)) (2 ^ code .m)
+    (λ i. byteOf (coded (code .m) (uBit mask message) i)) block i 0 ok h room)
     ∙ bit-of-byte (coded (code .m) (uBit mask message) i)
 
 -- ---- the front: an accepted call has room for the LLRs, and is odd in its samples
 
-front-room : (m C : ℕ) (channel : Channel) (samples : List Float) (room : ℕ) → frontNumber m C channel samples room ≡ 0 → 2 ^ m ≤ room
+front-room : (m C : ℕ) (channel : Channel) (samples : List Float) (room : ℕ) → frontNumber m C channel samples room ≡ 0
+    → 2 ^ m ≤ room
 front-room m C channel samples room ok =
     let one = check-passed (between 1 largestM m) 0 _ ok in
     let two = check-passed (between 1 largestCeiling C) 1 _ (one .1) in
@@ -73,26 +77,32 @@ channel-odd s channel =
       llrs-flip = λ bit samples old old′ long ok i h.
           let flipped-samples = flippedSamples (2 ^ m) bit samples in
           let room = front-room m C channel samples (length old) ok in
-          let same : frontNumber m C channel flipped-samples (length old′) ≡ frontNumber m C channel samples (length old)
-          = front-number-flipped m C channel bit samples (length old′) ∙ ap (frontNumber m C channel samples) (sym long) in
-          new-at (frontNumber m C channel flipped-samples (length old′)) (2 ^ m) (λ i. llrOf C channel (getD flipped-samples i nan)) old′ i (pos 0)
+          let same : frontNumber m C channel flipped-samples (length old′)
+          ≡ frontNumber m C channel samples (length old)
+          = front-number-flipped m C channel bit samples (length old′)
+          ∙ ap (frontNumber m C channel samples) (sym long) in
+          new-at (frontNumber m C channel flipped-samples (length old′)) (2 ^ m)
+          (λ i. llrOf C channel (getD flipped-samples i nan)) old′ i (pos 0)
           (same ∙ ok) h (omega arith)
           ∙ llr-at-flipped (2 ^ m) C channel bit samples i h
           ∙ ap (flipped (bit i))
-          (sym (new-at (frontNumber m C channel samples (length old)) (2 ^ m) (λ i. llrOf C channel (getD samples i nan)) old i (pos 0) ok h room));
+          (sym (new-at (frontNumber m C channel samples (length old)) (2 ^ m)
+          (λ i. llrOf C channel (getD samples i nan)) old i (pos 0) ok h room));
     }
 
 -- ---- the decoder: two calls, the second with its LLRs flipped by the block sent, with slices of the same lengths
 
 -- where u is 0 wherever the mask is not, and the block sent is u coded
-pub record Calls (s : Settings) (mask : List ℕ) (u sent : ℕ → Bool) (llr llr′ : List ℤ) (lent lent′ : Slices) : Type 0 where
+pub record Calls (s : Settings) (mask : List ℕ) (u sent : ℕ → Bool) (llr llr′ : List ℤ)
+    (lent lent′ : Slices) : Type 0 where
   pub frozen : (i : ℕ) → (getD mask i 0 ≡ 0 → ⊥) → u i ≡ false
   pub block : (i : ℕ) → i < 2 ^ s .m → sent i ≡ coded (s .m) u i
   pub flips : (i : ℕ) → i < 2 ^ s .m → getD llr′ i (pos 0) ≡ flipped (sent i) (getD llr i (pos 0))
   pub long : length llr′ ≡ length llr
   pub lengths : lengthsOf lent′ ≡ lengthsOf lent
 
-answer-by : (number number′ : ℕ) (e e′ : Ending) → number′ ≡ number → (number ≡ 0 → e′ ≡ e) → resultBy number′ e′ ≡ resultBy number e
+answer-by : (number number′ : ℕ) (e e′ : Ending) → number′ ≡ number → (number ≡ 0 → e′ ≡ e)
+    → resultBy number′ e′ ≡ resultBy number e
 answer-by zero number′ e e′ same h = ap₂ resultBy same (h refl)
 answer-by (suc number) number′ e e′ same h = ap (λ (n : ℕ). resultBy n e′) same
 
@@ -100,7 +110,8 @@ module _ {s : Settings} {mask : List ℕ} {u sent : ℕ → Bool} {llr llr′ : 
     (c : Calls s mask u sent llr llr′ lent lent′) where
   number-same : callNumber s mask llr′ lent′ ≡ callNumber s mask llr lent
   number-same =
-      ap (decodeNumber s mask llr′) (c .lengths) ∙ number-flipped s mask llr llr′ (lengthsOf lent) sent (c .long) (c .flips)
+      ap (decodeNumber s mask llr′) (c .lengths)
+      ∙ number-flipped s mask llr llr′ (lengthsOf lent) sent (c .long) (c .flips)
 
   passed : callNumber s mask llr lent ≡ 0 → callNumber s mask llr′ lent′ ≡ 0
   passed ok = number-same ∙ ok
@@ -115,12 +126,14 @@ module _ {s : Settings} {mask : List ℕ} {u sent : ℕ → Bool} {llr llr′ : 
 
   pub answer-same : decodeResult s mask llr′ lent′ ≡ decodeResult s mask llr lent
   answer-same =
-      answer-by (callNumber s mask llr lent) (callNumber s mask llr′ lent′) (ending s mask llr (lent .work)) (ending s mask llr′ (lent′ .work))
+      answer-by (callNumber s mask llr lent) (callNumber s mask llr′ lent′) (ending s mask llr (lent .work))
+      (ending s mask llr′ (lent′ .work))
       number-same (λ ok. ending-same s mask u (runs ok))
 
   -- what both leave, where both accept
   module _ (ok : callNumber s mask llr lent ≡ 0) (i : ℕ) (h : i < 2 ^ s .m) where
-    pub soft-same : getD (decodeSlices s mask llr′ lent′ .soft) i (pos 0) ≡ flipped (u i) (getD (decodeSlices s mask llr lent .soft) i (pos 0))
+    pub soft-same : getD (decodeSlices s mask llr′ lent′ .soft) i (pos 0)
+        ≡ flipped (u i) (getD (decodeSlices s mask llr lent .soft) i (pos 0))
     soft-same =
         soft-written s mask llr′ lent′ (passed ok) i h ∙ final-soft s mask u (runs ok) i h
         ∙ ap (flipped (u i)) (sym (soft-written s mask llr lent ok i h))
@@ -131,9 +144,11 @@ module _ {s : Settings} {mask : List ℕ} {u sent : ℕ → Bool} {llr llr′ : 
         codedSoft-written s mask llr′ lent′ (passed ok) i h ∙ final-codedSoft s mask u (runs ok) i h
         ∙ ap (flipped (coded (s .m) u i)) (sym (codedSoft-written s mask llr lent ok i h))
 
-    pub mark-same : getD (decodeSlices s mask llr′ lent′ .mark) i 0 ≡ flippedMark (u i) (getD (decodeSlices s mask llr lent .mark) i 0)
+    pub mark-same : getD (decodeSlices s mask llr′ lent′ .mark) i 0
+        ≡ flippedMark (u i) (getD (decodeSlices s mask llr lent .mark) i 0)
     mark-same =
-        mark-written s mask llr′ lent′ (passed ok) i h ∙ ap markOf (final-soft s mask u (runs ok) i h) ∙ mark-flipped (u i) _
+        mark-written s mask llr′ lent′ (passed ok) i h ∙ ap markOf (final-soft s mask u (runs ok) i h)
+        ∙ mark-flipped (u i) _
         ∙ ap (flippedMark (u i)) (sym (mark-written s mask llr lent ok i h))
 
     pub codedMark-same : getD (decodeSlices s mask llr′ lent′ .codedMark) i 0

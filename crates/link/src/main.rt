@@ -1,4 +1,5 @@
-// Blocks through the decoder as it is compiled: document 01's blocks worked by hand, every refusal, and one message the whole way.
+// Blocks through the decoder as it is compiled: document 01's blocks worked by hand, every
+// refusal, and one message the whole way.
 // A line for each call gives what it is handed, its answer, and the slices afterwards.
 mod refused;
 mod say;

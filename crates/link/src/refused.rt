@@ -1,4 +1,5 @@
-// Every refusal of the decoder. All lent slices keep their nines; where a higher number would apply as well, the lowest is given.
+// Every refusal of the decoder. All lent slices keep their nines; where a higher number would
+// apply as well, the lowest is given.
 ghost use Prim.Native.Nat.{_≤_};
 use crate::small;
 use settings::Settings;

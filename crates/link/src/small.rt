@@ -1,5 +1,6 @@
 // The decoder's small blocks: those that document 01 works by hand, and values at the ends of what is accepted.
-// Every slice that is lent to be written is one element longer than needed and held nines before, so each list ends in 9.
+// Every slice that is lent to be written is one element longer than needed and held
+// nines before, so each list ends in 9.
 use crate::say;
 use settings::Settings;
 
@@ -115,7 +116,8 @@ pub fn four_positions() {
     );
 }
 
-// LLRs of the ceiling's size, the highest limit, and a mask and LLRs that are longer than needed: what lies behind is not read.
+// LLRs of the ceiling's size, the highest limit, and a mask and LLRs that are longer than
+// needed: what lies behind is not read.
 pub fn accepted_ends() {
     pair(b"accepted", of(16, 10, 1, 0), &[1, 0], &[31, -31]);
     pair(b"accepted", of(16, 200, 1, 0), &[1, 0], &[3, -3]);

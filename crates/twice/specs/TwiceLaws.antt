@@ -1,5 +1,5 @@
--- Where every position is an information position, the coder accepts its own block exactly where the second slice is long enough, and
--- writes the message back.
+-- Where every position is an information position, the coder accepts its own block exactly where the second slice is
+-- long enough, and writes the message back.
 use Prim.Native.Nat.{ℕ, zero, suc, _^_}
 use mathlib.Core.Path.{_≡_, refl, _∙_}
 use mathlib.Core.Bool.{Bool, true, false}
@@ -29,13 +29,16 @@ module _ (code : Code) (mask message block again : List ℕ) (all : AllInformati
   by-room : (long : Bool) → leb (2 ^ code .m) (length again) ≡ long
       → encodeNumber code mask (encodeBlock code mask message block) (length again) ≡ check long 7 0
   by-room true e = encode-again code mask all message block again accepted (leb-true _ _ e)
-  by-room false e = simp (le-leb 1 _ (parts .0 .some), le-leb _ 10 (parts .0 .size), le-leb _ _ (parts .0 .mask-long), e)
+  by-room false e =
+      simp (le-leb 1 _ (parts .0 .some), le-leb _ 10 (parts .0 .size), le-leb _ _ (parts .0 .mask-long), e)
 
-  pub second-number : encodeNumber code mask (encodeBlock code mask message block) (length again) ≡ twiceNumber code mask message block again
+  pub second-number : encodeNumber code mask (encodeBlock code mask message block) (length again)
+      ≡ twiceNumber code mask message block again
   second-number = by-room (leb (2 ^ code .m) (length again)) refl ∙ rw accepted
 
   pub second-block : twiceNumber code mask message block again ≡ 0
-      → encodeBlock code mask (encodeBlock code mask message block) again ≡ overwrite (2 ^ code .m) (λ i. getD message i 0) again
+      → encodeBlock code mask (encodeBlock code mask message block) again
+      ≡ overwrite (2 ^ code .m) (λ i. getD message i 0) again
   second-block done =
       let long = check-passed (leb (2 ^ code .m) (length again)) 6 0 (rw accepted at done) .0 in
       encode-twice code mask all message block again accepted (leb-true _ _ long)

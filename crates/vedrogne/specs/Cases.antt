@@ -1,9 +1,18 @@
 -- Lists at their boundary lengths, and answers as numbers. Computed facts.
 use mathlib.Core.Path.{_≡_, refl}
-use mathlib.Core.List.{List, [], _∷_}
+use mathlib.Core.List.{[], _∷_}
 use Rattle.decoder.specs.Decoder.{refused, ended}
 use Rattle.tally.specs.Tally.{counted}
-use Rattle.vedrogne.specs.Interface.{settingsIn, tallyIn, tallyOut, settingsListNumber, talliedNumber, resultNumber, iterationsOut, reasonOut}
+use Rattle.vedrogne.specs.Interface.{
+  settingsIn,
+  tallyIn,
+  tallyOut,
+  settingsListNumber,
+  talliedNumber,
+  resultNumber,
+  iterationsOut,
+  reasonOut,
+}
 
 -- the report's order; a seventh element is not read
 pub settings : settingsIn (1 ∷ 31 ∷ 16 ∷ 10 ∷ 2 ∷ 3 ∷ 99 ∷ [])
@@ -27,15 +36,19 @@ pub refused-with-15 : talliedNumber (1 ∷ 0 ∷ 0 ∷ 0 ∷ 0 ∷ []) (1 ∷ 31
 refused-with-15 = refl
 
 -- an ending by the limit and a refusal, counted into a list of six elements
-pub ending-counted : tallyOut (counted (tallyIn (4 ∷ 1 ∷ 1 ∷ 2 ∷ 9 ∷ 5 ∷ [])) (ended 10 2)) (4 ∷ 1 ∷ 1 ∷ 2 ∷ 9 ∷ 5 ∷ []) ≡ 5 ∷ 1 ∷ 2 ∷ 2 ∷ 19 ∷ 5 ∷ []
+pub ending-counted : tallyOut (counted (tallyIn (4 ∷ 1 ∷ 1 ∷ 2 ∷ 9 ∷ 5 ∷ [])) (ended 10 2)) (4 ∷ 1 ∷ 1 ∷ 2 ∷ 9 ∷ 5 ∷ [])
+    ≡ 5 ∷ 1 ∷ 2 ∷ 2 ∷ 19 ∷ 5 ∷ []
 ending-counted = refl
 
-pub refusal-counted : tallyOut (counted (tallyIn (4 ∷ 1 ∷ 1 ∷ 2 ∷ 9 ∷ 5 ∷ [])) (refused 7)) (4 ∷ 1 ∷ 1 ∷ 2 ∷ 9 ∷ 5 ∷ []) ≡ 5 ∷ 1 ∷ 1 ∷ 3 ∷ 9 ∷ 5 ∷ []
+pub refusal-counted : tallyOut (counted (tallyIn (4 ∷ 1 ∷ 1 ∷ 2 ∷ 9 ∷ 5 ∷ [])) (refused 7)) (4 ∷ 1 ∷ 1 ∷ 2 ∷ 9 ∷ 5 ∷ [])
+    ≡ 5 ∷ 1 ∷ 1 ∷ 3 ∷ 9 ∷ 5 ∷ []
 refusal-counted = refl
 
 -- number, iteration and reason of an ending and of a refusal; the lent numbers held 77 and 88
-pub ending-told : resultNumber (ended 10 2) ∷ iterationsOut (ended 10 2) 77 ∷ reasonOut (ended 10 2) 88 ∷ [] ≡ 0 ∷ 10 ∷ 2 ∷ []
+pub ending-told : resultNumber (ended 10 2) ∷ iterationsOut (ended 10 2) 77 ∷ reasonOut (ended 10 2) 88 ∷ []
+    ≡ 0 ∷ 10 ∷ 2 ∷ []
 ending-told = refl
 
-pub refusal-told : resultNumber (refused 10) ∷ iterationsOut (refused 10) 77 ∷ reasonOut (refused 10) 88 ∷ [] ≡ 10 ∷ 77 ∷ 88 ∷ []
+pub refusal-told : resultNumber (refused 10) ∷ iterationsOut (refused 10) 77 ∷ reasonOut (refused 10) 88 ∷ []
+    ≡ 10 ∷ 77 ∷ 88 ∷ []
 refusal-told = refl

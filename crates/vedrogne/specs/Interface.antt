@@ -1,4 +1,5 @@
--- What crosses the C interface: lists of 32-bit numbers as settings and as a tally, and what the decoder's functions return and write. Definitions only.
+-- What crosses the C interface: lists of 32-bit numbers as settings and as a tally, and what the decoder's functions
+-- return and write. Definitions only.
 use Prim.Native.Nat.{ℕ}
 use mathlib.Core.Path.{_≡_}
 use mathlib.Core.List.{List, [], _∷_}
@@ -22,15 +23,29 @@ codeIn m = record { m = m }
 -- in the order of the report's first name line
 abbrev pub settingsIn : List ℕ → Settings
 settingsIn l =
-    record { m = getD l 0 0; ceiling = getD l 1 0; scale = getD l 2 0; limit = getD l 3 0; criterion = getD l 4 0; operand = getD l 5 0 }
+    record {
+      m = getD l 0 0;
+      ceiling = getD l 1 0;
+      scale = getD l 2 0;
+      limit = getD l 3 0;
+      criterion = getD l 4 0;
+      operand = getD l 5 0;
+    }
 
 abbrev pub tallyIn : List ℕ → Tally
 tallyIn l =
-    record { blocks = getD l 0 0; «by_criterion» = getD l 1 0; «by_limit» = getD l 2 0; refusals = getD l 3 0; iterations = getD l 4 0 }
+    record {
+      blocks = getD l 0 0;
+      «by_criterion» = getD l 1 0;
+      «by_limit» = getD l 2 0;
+      refusals = getD l 3 0;
+      iterations = getD l 4 0;
+    }
 
 -- the five numbers in the first five elements, the old contents behind them
 abbrev pub tallyOut : Tally → List ℕ → List ℕ
-tallyOut t old = overwrite 5 (λ i. getD (t .blocks ∷ t .«by_criterion» ∷ t .«by_limit» ∷ t .refusals ∷ t .iterations ∷ []) i 0) old
+tallyOut t old =
+    overwrite 5 (λ i. getD (t .blocks ∷ t .«by_criterion» ∷ t .«by_limit» ∷ t .refusals ∷ t .iterations ∷ []) i 0) old
 
 -- ---- what is tested before the decoder is called
 
@@ -40,9 +55,11 @@ settingsListNumber settings = check (leb 6 (length settings)) 7 0
 
 -- 7, for a tally with fewer than five elements or for the settings; 15, which comes after both
 abbrev pub talliedNumber : List ℕ → List ℕ → ℕ
-talliedNumber tally settings = check (leb 5 (length tally)) 7 (firstRefusal (settingsListNumber settings) (tallyNumber (tallyIn tally)))
+talliedNumber tally settings =
+    check (leb 5 (length tally)) 7 (firstRefusal (settingsListNumber settings) (tallyNumber (tallyIn tally)))
 
--- ---- the number that is returned for an answer, and what the two numbers lent for iteration and reason hold afterwards
+-- ---- the number that is returned for an answer, and what the two numbers lent for iteration and reason hold
+-- afterwards
 
 abbrev pub resultNumber : Result → ℕ
 resultNumber (refused number) = number
@@ -84,9 +101,11 @@ module _ (first : ℕ) (settings mask : List ℕ) (llr : List ℤ) (before : Len
 
 -- ---- the promise of `vedrogne_decode_tallied`: the same, and the tally afterwards
 
--- the decoder's answer is counted, refusals 1 to 10 included; after the 7 of a short list and after 15 the tally is as it was
+-- the decoder's answer is counted, refusals 1 to 10 included; after the 7 of a short list
+-- and after 15 the tally is as it was
 abbrev pub tallyListAfter : List ℕ → List ℕ → Result → List ℕ
-tallyListAfter tally settings answer = unlessRefused (talliedNumber tally settings) (tallyOut (counted (tallyIn tally) answer) tally) tally
+tallyListAfter tally settings answer =
+    unlessRefused (talliedNumber tally settings) (tallyOut (counted (tallyIn tally) answer) tally) tally
 
 pub record TalliedCall (tally tally′ settings mask : List ℕ) (llr : List ℤ) (before after : Lent) (r : ℕ) : Type 0 where
   pub call : DecodeCall (talliedNumber tally settings) settings mask llr before after r

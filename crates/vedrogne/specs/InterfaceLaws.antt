@@ -10,13 +10,23 @@ use Rattle.calls.specs.Memory.{unlessRefused}
 use Rattle.decoder.specs.Decoder.{Ending, ending, Result, resultBy, callNumber}
 use Rattle.tally.specs.declared.Tally.{Tally}
 use Rattle.tally.specs.Tally.{tallyNumber, counted, answerBy, tallyBy}
-use Rattle.vedrogne.specs.Interface.{settingsIn, tallyIn, tallyOut, settingsListNumber, talliedNumber, resultNumber, Lent, DecodeCall}
+use Rattle.vedrogne.specs.Interface.{
+  settingsIn,
+  tallyIn,
+  tallyOut,
+  settingsListNumber,
+  talliedNumber,
+  resultNumber,
+  Lent,
+  DecodeCall,
+}
 
 -- ---- the tally's list
 
 -- five stores write a tally
 pub tally-stored : (t : Tally) (l : List ℕ)
-    → set (set (set (set (set l 0 (t .blocks)) 1 (t .«by_criterion»)) 2 (t .«by_limit»)) 3 (t .refusals)) 4 (t .iterations) ≡ tallyOut t l
+    → set (set (set (set (set l 0 (t .blocks)) 1 (t .«by_criterion»)) 2 (t .«by_limit»)) 3 (t .refusals)) 4
+    (t .iterations) ≡ tallyOut t l
 tally-stored t [] = refl
 tally-stored t (a ∷ []) = refl
 tally-stored t (a ∷ b ∷ []) = refl
@@ -58,7 +68,8 @@ module _ (tally settings : List ℕ) where
 
 -- ---- after a refusal, whoever refuses, the lent slices, iteration and reason are as they were
 
-refused-by : (first number : ℕ) (e : Ending) {refusal : ℕ} {P : Type 0} → resultNumber (answerBy first (resultBy number e)) ≡ suc refusal
+refused-by : (first number : ℕ) (e : Ending) {refusal : ℕ} {P : Type 0}
+    → resultNumber (answerBy first (resultBy number e)) ≡ suc refusal
     → ((k : ℕ) → first ≡ suc k → P) → ((k : ℕ) → first ≡ 0 → number ≡ suc k → P) → P
 refused-by zero zero e h before within = absurd (omega arith)
 refused-by zero (suc number) e h before within = within number refl refl
@@ -67,5 +78,6 @@ refused-by (suc first) number e h before within = before first refl
 pub refusal-writes-nothing : {first : ℕ} {settings mask : List ℕ} {llr : List ℤ} {before after : Lent} {refusal : ℕ}
     → DecodeCall first settings mask llr before after (suc refusal) → after ≡ before
 refusal-writes-nothing {first} {settings} {mask} {llr} {before} c =
-    refused-by first (callNumber (settingsIn settings) mask llr (before .slices)) (ending (settingsIn settings) mask llr (before .slices .work))
+    refused-by first (callNumber (settingsIn settings) mask llr (before .slices))
+    (ending (settingsIn settings) mask llr (before .slices .work))
     (sym (c .number-is)) (λ k h. c .lent-is ∙ rw h) (λ k h g. c .lent-is ∙ rw (h, g))

@@ -1,7 +1,10 @@
-// The C interface: coder, read-out, front and decoder for callers in other languages, as include/vedrogne.h declares them.
-// It sees the promises of `calls`, `polar`, `channel`, `settings`, `decoder` and `tally`. It promises that each function returns its call's number, 0 or a
-// refusal's, and leaves in every lent slice what the call's definition says; after a refusal nothing has changed, save a tally that counts it.
-// A slice is a pointer and a length in elements, two parameters in C. No function requires anything of the values handed in.
+// The C interface: coder, read-out, front and decoder for callers in other languages, as include/vedrogne.h
+// declares them.
+// It sees the promises of `calls`, `polar`, `channel`, `settings`, `decoder` and `tally`. It promises that each
+// function returns its call's number, 0 or a refusal's, and leaves in every lent slice what the call's definition
+// says; after a refusal nothing has changed, save a tally that counts it.
+// A slice is a pointer and a length in elements, two parameters in C. No function requires anything of the values
+// handed in.
 ghost use mathlib.Core.Path.{_≡_};
 ghost use Prim.Native.Nat.{_≤_};
 ghost use lib.ListN.{length};
@@ -9,7 +12,19 @@ ghost use Rattle.polar.specs.Code.{encodeNumber, encodeBlock, readOutNumber, re
 ghost use Rattle.channel.specs.Front.{frontNumber, frontLlrs};
 ghost use Rattle.settings.specs.Slices.{slices};
 ghost use Rattle.decoder.specs.Decoder.{resultOf};
-ghost use Rattle.vedrogne.specs.Interface.{codeIn, settingsIn, tallyIn, tallyOut, settingsListNumber, resultNumber, iterationsOut, reasonOut, lent, DecodeCall, TalliedCall};
+ghost use Rattle.vedrogne.specs.Interface.{
+  codeIn,
+  settingsIn,
+  tallyIn,
+  tallyOut,
+  settingsListNumber,
+  resultNumber,
+  iterationsOut,
+  reasonOut,
+  lent,
+  DecodeCall,
+  TalliedCall,
+};
 use calls::Answer;
 use channel::Channel;
 use decoder::Outcome;
@@ -118,7 +133,8 @@ pub extern "C" fn vedrogne_decode(
     result_out(outcome, iterations, reason)
 }
 
-// The tally's list is written back after every call of the decoder; where 15 refuses it, its numbers are those that it held.
+// The tally's list is written back after every call of the decoder; where 15 refuses it,
+// its numbers are those that it held.
 #[no_mangle]
 pub extern "C" fn vedrogne_decode_tallied(
     tally: &mut [u32],
@@ -167,16 +183,20 @@ pub extern "C" fn vedrogne_decode_tallied(
 
 #[no_mangle]
 pub extern "C" fn vedrogne_encode(m: u32, mask: &[u8], message: &[u8], block: &mut [u8]) -> u32
-    ensures { λ r. ⌜ r ≡ encodeNumber (codeIn m) (now (mask .entry)) (now (message .entry)) (length (now (block .entry))) ⌝ }
-    ensures { λ _. ⌜ now (block .exit) ≡ encodeBlock (codeIn m) (now (mask .entry)) (now (message .entry)) (now (block .entry)) ⌝ }
+    ensures { λ r. ⌜ r ≡ encodeNumber (codeIn m) (now (mask .entry)) (now (message .entry))
+        (length (now (block .entry))) ⌝ }
+    ensures { λ _. ⌜ now (block .exit)
+        ≡ encodeBlock (codeIn m) (now (mask .entry)) (now (message .entry)) (now (block .entry)) ⌝ }
 {
     calls::number(polar::encode(Code { m: m }, mask, message, block))
 }
 
 #[no_mangle]
 pub extern "C" fn vedrogne_read_out(m: u32, mask: &[u8], bits: &[u8], message: &mut [u8]) -> u32
-    ensures { λ r. ⌜ r ≡ readOutNumber (codeIn m) (now (mask .entry)) (now (bits .entry)) (length (now (message .entry))) ⌝ }
-    ensures { λ _. ⌜ now (message .exit) ≡ readOutMessage (codeIn m) (now (mask .entry)) (now (bits .entry)) (now (message .entry)) ⌝ }
+    ensures { λ r. ⌜ r ≡ readOutNumber (codeIn m) (now (mask .entry)) (now (bits .entry))
+        (length (now (message .entry))) ⌝ }
+    ensures { λ _. ⌜ now (message .exit)
+        ≡ readOutMessage (codeIn m) (now (mask .entry)) (now (bits .entry)) (now (message .entry)) ⌝ }
 {
     calls::number(polar::read_out(Code { m: m }, mask, bits, message))
 }
@@ -189,8 +209,10 @@ pub extern "C" fn vedrogne_front_gaussian(
     samples: &[f32],
     llr: &mut [i16],
 ) -> u32
-    ensures { λ r. ⌜ r ≡ frontNumber m ceiling (Channel.Gaussian factor) (now (samples .entry)) (length (now (llr .entry))) ⌝ }
-    ensures { λ _. ⌜ now (llr .exit) ≡ frontLlrs m ceiling (Channel.Gaussian factor) (now (samples .entry)) (now (llr .entry)) ⌝ }
+    ensures { λ r. ⌜ r ≡ frontNumber m ceiling (Channel.Gaussian factor) (now (samples .entry))
+        (length (now (llr .entry))) ⌝ }
+    ensures { λ _. ⌜ now (llr .exit)
+        ≡ frontLlrs m ceiling (Channel.Gaussian factor) (now (samples .entry)) (now (llr .entry)) ⌝ }
 {
     calls::number(channel::front(m, ceiling, Channel::Gaussian(factor), samples, llr))
 }
@@ -203,8 +225,10 @@ pub extern "C" fn vedrogne_front_flipping(
     samples: &[f32],
     llr: &mut [i16],
 ) -> u32
-    ensures { λ r. ⌜ r ≡ frontNumber m ceiling (Channel.Flipping weight) (now (samples .entry)) (length (now (llr .entry))) ⌝ }
-    ensures { λ _. ⌜ now (llr .exit) ≡ frontLlrs m ceiling (Channel.Flipping weight) (now (samples .entry)) (now (llr .entry)) ⌝ }
+    ensures { λ r. ⌜ r ≡ frontNumber m ceiling (Channel.Flipping weight) (now (samples .entry))
+        (length (now (llr .entry))) ⌝ }
+    ensures { λ _. ⌜ now (llr .exit)
+        ≡ frontLlrs m ceiling (Channel.Flipping weight) (now (samples .entry)) (now (llr .entry)) ⌝ }
 {
     calls::number(channel::front(m, ceiling, Channel::Flipping(weight), samples, llr))
 }

@@ -1,11 +1,11 @@
--- Document 01, "Blocks worked by hand": P1 to P10 and the boundary values, and "Readings that look plausible". A table of cases with the values
--- worked by hand, and what the definitions of the contracts of decoder, coder and front give for them. Computed facts.
+-- Document 01, "Blocks worked by hand": P1 to P10 and the boundary values, and "Readings that look plausible". A
+-- table of cases with the values worked by hand, and what the definitions of the contracts of decoder, coder and
+-- front give for them. Computed facts.
 use Prim.Native.Nat.{ℕ, zero, suc, _+_, _*_, _^_}
 use mathlib.Core.Path.{_≡_, refl}
 use mathlib.Core.List.{List, [], _∷_, _++_, map}
 use lib.IntN.{ℤ, pos, negℤ}
 use lib.Ieee.{Float, binary32, ofBits, mul, neg}
-use Rattle.polar.specs.declared.Code.{Code}
 use Rattle.polar.specs.Code.{encodeBlock}
 use Rattle.channel.specs.declared.Channel.{Channel}
 use Rattle.channel.specs.declared.Channel.the-variants.{Gaussian, Flipping}
@@ -68,7 +68,8 @@ answerOf c =
       codedMark = left .codedMark;
     }
 
--- ---- what was worked by hand: iteration, reason, soft outputs, marks, coded soft outputs, coded marks. The element behind keeps its 99 or 9
+-- ---- what was worked by hand: iteration, reason, soft outputs, marks, coded soft outputs, coded marks.
+-- The element behind keeps its 99 or 9
 
 abbrev ends : ℕ → ℕ → List ℤ → List ℕ → List ℤ → List ℕ → Answer
 ends iteration reason soft mark codedSoft codedMark = record {
@@ -131,7 +132,8 @@ blocks =
     -- P2
     ∷ line (block 1 16 10 1 0 (1 ∷ 0 ∷ []) (minus 5 ∷ pos 3 ∷ []))
     (ends 1 1 (pos 28 ∷ minus 2 ∷ []) (0 ∷ 1 ∷ []) (minus 2 ∷ minus 2 ∷ []) (1 ∷ 1 ∷ []))
-    -- P3. With the negative product -45 shifted by 4 places, soft output 0 would be 28 and coded soft output 0 would be 2
+    -- P3. With the negative product -45 shifted by 4 places, soft output 0 would be 28
+    -- and coded soft output 0 would be 2
     ∷ line (block 1 15 10 1 0 (1 ∷ 0 ∷ []) (pos 5 ∷ minus 3 ∷ []))
     (ends 1 1 (pos 29 ∷ pos 1 ∷ []) (0 ∷ 0 ∷ []) (pos 3 ∷ pos 1 ∷ []) (0 ∷ 0 ∷ []))
     -- P4. With zero taken as positive, criterion 1 would hold at iteration 1
@@ -152,7 +154,8 @@ blocks =
     (ends 1 2 (pos 28 ∷ pos 2 ∷ []) (0 ∷ 0 ∷ []) (pos 2 ∷ pos 2 ∷ []) (0 ∷ 0 ∷ []))
     -- P8
     ∷ line (block 2 16 10 1 0 (1 ∷ 1 ∷ 1 ∷ 0 ∷ []) (pos 1 ∷ pos 2 ∷ pos 3 ∷ pos 4 ∷ []))
-    (ends 1 1 (pos 31 ∷ pos 31 ∷ pos 31 ∷ pos 6 ∷ []) (0 ∷ 0 ∷ 0 ∷ 0 ∷ []) (pos 7 ∷ pos 7 ∷ pos 9 ∷ pos 9 ∷ []) (0 ∷ 0 ∷ 0 ∷ 0 ∷ []))
+    (ends 1 1 (pos 31 ∷ pos 31 ∷ pos 31 ∷ pos 6 ∷ []) (0 ∷ 0 ∷ 0 ∷ 0 ∷ []) (pos 7 ∷ pos 7 ∷ pos 9 ∷ pos 9 ∷ [])
+    (0 ∷ 0 ∷ 0 ∷ 0 ∷ []))
     -- P9
     ∷ coded (0 ∷ 0 ∷ 0 ∷ 1 ∷ []) (1 ∷ 1 ∷ 1 ∷ 1 ∷ [])
     ∷ coded (0 ∷ 1 ∷ 0 ∷ 0 ∷ []) (1 ∷ 1 ∷ 0 ∷ 0 ∷ [])
@@ -161,7 +164,8 @@ blocks =
     ∷ received (Flipping (float 0x3e80_0000)) (pos 0 ∷ pos 0 ∷ [])
     -- two sums, each cut: L(0, 2) is -20 - 20, cut to -31, and soft output 2 is -31 + 31. Cut only once, it would be -9
     ∷ line (block 2 16 1 0 0 (1 ∷ 1 ∷ 1 ∷ 0 ∷ []) (minus 20 ∷ pos 20 ∷ minus 20 ∷ pos 20 ∷ []))
-    (ends 1 2 (pos 20 ∷ pos 31 ∷ pos 0 ∷ pos 31 ∷ []) (0 ∷ 0 ∷ 2 ∷ 0 ∷ []) (minus 9 ∷ pos 29 ∷ minus 9 ∷ pos 29 ∷ []) (1 ∷ 0 ∷ 1 ∷ 0 ∷ []))
+    (ends 1 2 (pos 20 ∷ pos 31 ∷ pos 0 ∷ pos 31 ∷ []) (0 ∷ 0 ∷ 2 ∷ 0 ∷ []) (minus 9 ∷ pos 29 ∷ minus 9 ∷ pos 29 ∷ [])
+    (1 ∷ 0 ∷ 1 ∷ 0 ∷ []))
     -- LLRs of 31, -31, 32 and -32768
     ∷ line (block 1 16 10 1 0 (1 ∷ 0 ∷ []) (pos 31 ∷ minus 3 ∷ []))
     (ends 1 1 (pos 28 ∷ pos 28 ∷ []) (0 ∷ 0 ∷ []) (pos 28 ∷ pos 28 ∷ []) (0 ∷ 0 ∷ []))
@@ -179,7 +183,8 @@ blocks =
     ∷ []
 
 pub worked : map (λ l. l .found) blocks ≡ map (λ l. l .expected) blocks
-unfolding add f setRow leftStep rightStep start after ending ofBits mul neg withSampleSign quantised isFinite isAboveZero
+unfolding add f setRow leftStep rightStep start after ending ofBits mul neg withSampleSign quantised isFinite
+    isAboveZero
 worked = refl
 
 -- ---- the workspace of P1 at its end: L(0, .), L(1, .), R(0, .), R(1, .), and the element behind

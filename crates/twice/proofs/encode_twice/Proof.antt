@@ -46,7 +46,8 @@ module _ (c : tie.After-encode2) where
   passed = sym (first .encode .ensures .0) ∙ ap numberOf (told .enum-told .given .1)
 
   number : AllInformation (code first) (mask first)
-      → numberOf (c .encode2 .result) ≡ twiceNumber (code first) (mask first) (message first) (block first) (again first)
+      → numberOf (c .encode2 .result)
+      ≡ twiceNumber (code first) (mask first) (message first) (block first) (again first)
   number all =
       (rw (first .encode .ensures .1) at (c .encode2 .ensures .0))
       ∙ second-number (code first) (mask first) (message first) (block first) (again first) all passed
@@ -73,7 +74,10 @@ returns c =
     let refused = sym (before .encode .ensures .0) ∙ ap numberOf (r .1) in
     let returned = overwrite (2 ^ code before .m) (λ i. getD (message before) i 0) (again before) in (
       λ all. rw refused (sym (refused-first (r .0 .0) _)),
-      (λ all done. rw done at (refused-keeps (r .0 .0) (again before) returned), (before .encode .ensures .1, λ h. refl)),
+      (
+        λ all done. rw done at (refused-keeps (r .0 .0) (again before) returned),
+        (before .encode .ensures .1, λ h. refl),
+      ),
     )
 
 same-length-2 : tie.Need-same-length-2
@@ -91,7 +95,10 @@ returns-2 c =
       number second,
       (
         λ all done. wrote ∙ law all (passed second) (sym (number second all) ∙ done),
-        (before .encode .ensures .1, λ h. second .encode2 .ensures .1 ∙ kept _ _ _ (λ z. h (second .encode2 .ensures .0 ∙ z))),
+        (
+          before .encode .ensures .1,
+          λ h. second .encode2 .ensures .1 ∙ kept _ _ _ (λ z. h (second .encode2 .ensures .0 ∙ z)),
+        ),
       ),
     )
 

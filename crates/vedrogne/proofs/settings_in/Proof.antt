@@ -3,8 +3,6 @@ use mathlib.Core.Path.{refl}
 use borrow.Author.Needs.{needs}
 use Rattle.vedrogne.proofs.settings_in.Statement.{statement}
 use Rattle.vedrogne.proofs.settings_in.Tie as tie
-use Rattle.vedrogne.proofs.settings_in.Reads as reads
-use Rattle.vedrogne.proofs.settings_in.Lts as lts
 
 shared-slice-read-t3 : tie.Need-shared-slice-read-t3
 shared-slice-read-t3 c = search needs

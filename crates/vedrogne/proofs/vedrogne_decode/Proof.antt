@@ -1,7 +1,10 @@
 -- `vedrogne_decode` meets its contract.
+use Prim.Native.Nat.{ℕ}
+use mathlib.Core.List.{List}
 use native.Mathlib.Omega.{arith}
 use borrow.Author.Needs.{needs}
 use denote.Ref.{now}
+use lib.IntN.{ℤ}
 use Rattle.settings.specs.Slices.{slices}
 use Rattle.vedrogne.specs.Interface.{Lent, lent}
 use Rattle.vedrogne.specs.InterfaceLaws.{settings-short, settings-long}
@@ -9,17 +12,30 @@ use Rattle.vedrogne.proofs.Promises.{call-refused, call-decoded}
 use Rattle.vedrogne.proofs.vedrogne_decode.Statement.{statement}
 use Rattle.vedrogne.proofs.vedrogne_decode.Tie as tie
 
--- what is lent
-abbrev given : tie.Start → Lent
-given c =
-    let a = c .args in
-    lent (slices (now (a .soft)) (now (a .mark)) (now (a .coded-soft)) (now (a .coded-mark)) (now (a .work))) (now (a .iterations)) (now (a .reason))
+-- what the function is handed, and what it is lent
+module _ (c : tie.After-slice-known2) where
+  abbrev start : tie.Start
+  start = c .before .before .before .before
+
+  abbrev settings : List ℕ
+  settings = now (start .args .settings)
+
+  abbrev mask : List ℕ
+  mask = now (start .args .mask)
+
+  abbrev llr : List ℤ
+  llr = now (start .args .llr)
+
+  abbrev given : Lent
+  given =
+      let a = start .args in
+      lent (slices (now (a .soft)) (now (a .mark)) (now (a .coded-soft)) (now (a .coded-mark)) (now (a .work)))
+      (now (a .iterations)) (now (a .reason))
 
 returns : tie.Need-returns
 returns c =
-    let a = c .before .before .before .before .before in
-    call-refused _ (now (a .args .settings)) (now (a .args .mask)) (now (a .args .llr)) (given a)
-    (settings-short (now (a .args .settings)) (omega arith))
+    let k = c .before in
+    call-refused _ (settings k) (mask k) (llr k) (given k) (settings-short (settings k) (omega arith))
 
 settings-in-requires : tie.Need-settings-in-requires
 settings-in-requires c κs = search needs
@@ -47,11 +63,13 @@ same-length-5 c = search needs
 
 returns-2 : tie.Need-returns-2
 returns-2 c =
-    let d = c .before .before .before .before .before .before .before .before .before .before in
-    let listed = d .before .before .before .before .before .before in
-    let a = listed .before .before .before .before .before .before in
-    call-decoded _ (now (a .args .settings)) (now (a .args .mask)) (now (a .args .llr)) (given a)
-    (settings-long (now (a .args .settings)) (omega (arith, listed .before .if1 .left))) (listed .settings-in .ensures) (d .decode .ensures) (c .result-out .ensures)
+    let decoded = c .before .before .before .before .before .before .before .before .before .before in
+    let listed = decoded .before .before .before .before .before .before in
+    let long = listed .before in
+    let k = long .before in
+    call-decoded _ (settings k) (mask k) (llr k) (given k)
+    (settings-long (settings k) (omega (arith, long .if1 .left))) (listed .settings-in .ensures)
+    (decoded .decode .ensures) (c .result-out .ensures)
 
 pub vedrogne-decode-spec : {M : Type 1} → statement M
 vedrogne-decode-spec =

@@ -1,7 +1,10 @@
 -- `vedrogne_decode_tallied` meets its contract.
+use Prim.Native.Nat.{ℕ}
+use mathlib.Core.List.{List}
 use native.Mathlib.Omega.{arith}
 use borrow.Author.Needs.{needs}
 use denote.Ref.{now}
+use lib.IntN.{ℤ}
 use Rattle.settings.specs.Slices.{slices}
 use Rattle.vedrogne.specs.Interface.{Lent, lent}
 use Rattle.vedrogne.specs.InterfaceLaws.{tallied-short, tallied-settings-short, tallied-long}
@@ -9,23 +12,40 @@ use Rattle.vedrogne.proofs.Promises.{tallied-refused, tallied-counted}
 use Rattle.vedrogne.proofs.vedrogne_decode_tallied.Statement.{statement}
 use Rattle.vedrogne.proofs.vedrogne_decode_tallied.Tie as tie
 
--- what is lent
-abbrev given : tie.Start → Lent
-given c =
-    let a = c .args in
-    lent (slices (now (a .soft)) (now (a .mark)) (now (a .coded-soft)) (now (a .coded-mark)) (now (a .work))) (now (a .iterations)) (now (a .reason))
+-- what the function is handed, and what it is lent
+module _ (c : tie.After-slice-known3) where
+  abbrev start : tie.Start
+  start = c .before .before .before .before .before
+
+  abbrev tally : List ℕ
+  tally = now (start .args .tally)
+
+  abbrev settings : List ℕ
+  settings = now (start .args .settings)
+
+  abbrev mask : List ℕ
+  mask = now (start .args .mask)
+
+  abbrev llr : List ℤ
+  llr = now (start .args .llr)
+
+  abbrev given : Lent
+  given =
+      let a = start .args in
+      lent (slices (now (a .soft)) (now (a .mark)) (now (a .coded-soft)) (now (a .coded-mark)) (now (a .work)))
+      (now (a .iterations)) (now (a .reason))
 
 returns : tie.Need-returns
 returns c =
-    let a = c .before .before .before .before .before .before in
-    tallied-refused (now (a .args .tally)) (now (a .args .settings)) (now (a .args .mask)) (now (a .args .llr)) (given a)
-    (tallied-short (now (a .args .tally)) (now (a .args .settings)) (omega arith))
+    let k = c .before in
+    tallied-refused (tally k) (settings k) (mask k) (llr k) (given k)
+    (tallied-short (tally k) (settings k) (omega arith))
 
 returns-2 : tie.Need-returns-2
 returns-2 c =
-    let a = c .before .before .before .before .before .before .before in
-    tallied-refused (now (a .args .tally)) (now (a .args .settings)) (now (a .args .mask)) (now (a .args .llr)) (given a)
-    (tallied-settings-short (now (a .args .tally)) (now (a .args .settings)) (omega arith) (omega arith))
+    let k = c .before .before in
+    tallied-refused (tally k) (settings k) (mask k) (llr k) (given k)
+    (tallied-settings-short (tally k) (settings k) (omega arith) (omega arith))
 
 tally-in-requires : tie.Need-tally-in-requires
 tally-in-requires c κs = search needs
@@ -63,13 +83,14 @@ same-length-6 c = search needs
 returns-3 : tie.Need-returns-3
 returns-3 c =
     let stored = c .before .before .before .before .before in
-    let d = stored .before .before .before .before .before .before .before .before .before .before in
-    let listed = d .before .before .before .before .before .before in
+    let decoded = stored .before .before .before .before .before .before .before .before .before .before in
+    let listed = decoded .before .before .before .before .before .before in
     let long = listed .before .before .before in
-    let a = long .before .before .before .before .before .before .before in
-    tallied-counted (now (a .args .tally)) (now (a .args .settings)) (now (a .args .mask)) (now (a .args .llr)) (given a)
-    (tallied-long (now (a .args .tally)) (now (a .args .settings)) (omega (arith, long .before .if1 .left)) (omega (arith, long .if2 .left))) (stored .tally-out .ensures) (c .result-out .ensures)
-    (listed .before .tally-in .ensures) (listed .settings-in .ensures) (d .decode .ensures)
+    let k = long .before .before in
+    tallied-counted (tally k) (settings k) (mask k) (llr k) (given k)
+    (tallied-long (tally k) (settings k) (omega (arith, long .before .if1 .left)) (omega (arith, long .if2 .left)))
+    (stored .tally-out .ensures) (c .result-out .ensures) (listed .before .tally-in .ensures)
+    (listed .settings-in .ensures) (decoded .decode .ensures)
 
 pub vedrogne-decode-tallied-spec : {M : Type 1} → statement M
 vedrogne-decode-tallied-spec =

@@ -1,7 +1,6 @@
 -- `whole::checksum` is safe and ends: the sum stays below 65,521.
 use borrow.Author.Needs.{needs}
 use Prim.Native.Nat.{_≤_, _<_, _-_}
-use native.Mathlib.Omega.{arith}
 use lib.ListN.{length}
 use Rattle.link.proofs.whole.checksum.Statement.{statement}
 use Rattle.link.proofs.whole.checksum.Tie as tie
