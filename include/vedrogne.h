@@ -2,8 +2,8 @@
  * Vedrogne: polar coder, channel front and belief-propagation decoder.
  *
  * Link with -Ltarget/staticlib -lvedrogne; `rt staticlib vedrogne` writes the archive, target/staticlib/libvedrogne.a.
- * It is for Linux on x86-64 and needs the C library alone. No function allocates memory, keeps a state between calls, or
- * fails to return; different threads may call them at the same time.
+ * It is for Linux on x86-64 and needs the C library alone. No function allocates memory, keeps a state between calls,
+ * or fails to return; different threads may call them at the same time.
  *
  * A block has N = 2^m positions, m from 1 to 10. The mask has a byte for each: 1 frozen, 0 information. K is the number
  * of its information positions. Message bits fill these in rising order. The code's matrix is the m-th power of rows
