@@ -1,22 +1,26 @@
 /*
  * Vedrogne: polar coder, channel front and belief-propagation decoder.
  *
- * Link with the archive that `rt staticlib vedrogne` writes, target/staticlib/libvedrogne.a. It is for Linux on x86-64 and needs the C library alone.
- * No function allocates memory, keeps a state between calls, or fails to return; different threads may call them at the same time.
+ * Link with -Ltarget/staticlib -lvedrogne; `rt staticlib vedrogne` writes the archive, target/staticlib/libvedrogne.a.
+ * It is for Linux on x86-64 and needs the C library alone. No function allocates memory, keeps a state between calls,
+ * or fails to return; different threads may call them at the same time.
  *
- * A block has N = 2^m positions, m from 1 to 10. The mask has a byte for each: 1 frozen, 0 information. K is the number of its information
- * positions. Message bits fill these in rising order. The code's matrix is the m-th power of rows (1,0) and (1,1), without bit reversal. A mask
- * from a usual construction has to be bit-reversed for this decoder.
+ * A block has N = 2^m positions, m from 1 to 10. The mask has a byte for each: 1 frozen, 0 information. K is the number
+ * of its information positions. Message bits fill these in rising order. The code's matrix is the m-th power of rows
+ * (1,0) and (1,1), without bit reversal. A mask from a usual construction has to be bit-reversed for this decoder.
  *
- * Lists are pointers with a length in elements, which may be longer than needed: what is behind is neither read nor written. (A message byte or a
- * sample there refuses nothing.) The caller sees to it that
- *   - every pointer is aligned for its type, is not NULL, not even with a length of 0, and points to as many elements as its length says;
- *   - each of these elements has been given some value, also where a function only writes it: clear or set such memory once, before its first use;
- *   - what a function may write overlaps with nothing else that the same call is handed, and no other thread uses it meanwhile.
+ * Lists are pointers with a length in elements, which may be longer than needed: what is behind is neither read nor
+ * written. (A message byte or a sample there refuses nothing.) The caller sees to it that
+ *   - every pointer is aligned for its type, is not NULL, not even with a length of 0, and points to as many elements
+ *     as its length says;
+ *   - each of these elements has been given some value, also where a function only writes it: clear or set such memory
+ *     once, before its first use;
+ *   - what a function may write overlaps with nothing else that the same call is handed, and no other thread uses it
+ *     meanwhile.
  * Nothing else is required: every value of every number, float and byte is answered.
  *
- * Every function returns 0, or the number of a refusal. After a refusal no memory has changed, save a tally that counts the refusal.
- * Where several numbers apply the lowest is returned, save where a place is named.
+ * Every function returns 0, or the number of a refusal. After a refusal no memory has changed, save a tally that counts
+ * the refusal. Where several numbers apply the lowest is returned, save where a place is named.
  *
  *    number  refused because                                                          returned by
  *     1      m is outside 1..10                                                       all
@@ -59,8 +63,8 @@ uint32_t vedrogne_encode(
     uint8_t *block, size_t block_len);
 
 /*
- * Copies the bytes at the information positions of bits[0..N-1], in rising order, to message[0..K-1]. The bytes are copied whatever they are: handed the
- * marks of the decoder, it gives the decoded message, with a 2 for each tie.
+ * Copies the bytes at the information positions of bits[0..N-1], in rising order, to message[0..K-1]. The bytes are
+ * copied whatever they are: handed the marks of the decoder, it gives the decoded message, with a 2 for each tie.
  * Needed: N elements of mask and bits, K of message. Numbers: 1, 7, 8, 9, 7 for the message.
  */
 uint32_t vedrogne_read_out(
@@ -70,11 +74,13 @@ uint32_t vedrogne_read_out(
     uint8_t *message, size_t message_len);
 
 /*
- * The front: samples[0..N-1] become the log-likelihood ratios llr[0..N-1], whole numbers from -ceiling to ceiling. A positive one speaks for 0.
+ * The front: samples[0..N-1] become the log-likelihood ratios llr[0..N-1], whole numbers from -ceiling to ceiling. A
+ * positive one speaks for 0.
  *   gaussian   the product of sample and factor, a 32-bit float rounded once, to the nearest, ties to even
  *   flipping   the weight with the sample's sign; 0 for a sample of either zero
  *   erasing    the ceiling with the sample's sign; 0 for a sample of either zero
- * A value of size at least the ceiling becomes the ceiling with its sign, any other the nearest whole number, halves away from zero.
+ * A value of size at least the ceiling becomes the ceiling with its sign, any other the nearest whole number, halves
+ * away from zero.
  * Needed: N elements of samples and llr. Numbers: 1, 2, 7, 11, 12; vedrogne_front_erasing has no 11.
  */
 uint32_t vedrogne_front_gaussian(
@@ -95,7 +101,8 @@ uint32_t vedrogne_front_erasing(
 /*
  * Decodes llr[0..N-1].
  *
- * settings has six elements: m, ceiling, scale, limit, criterion, operand. Fewer are refused with 7, before every other test.
+ * settings has six elements: m, ceiling, scale, limit, criterion, operand. Fewer are refused with 7, before every other
+ * test.
  *   ceiling    C, 1 to 2047: every message of the decoder lies from -C to C
  *   scale      k, 1 to 16: a message is k/16 of the min-sum value, cut down to a whole number
  *   limit      T, 1 to 200: the most iterations
@@ -103,7 +110,8 @@ uint32_t vedrogne_front_erasing(
  *              0   nothing; operand 0
  *              1   no ties, and the marks coded are the coded marks; operand 0
  *              2   every soft output has at least the operand's size; operand 1 to C
- *              3   the marks at the information positions stayed the same at each of the last W iterations; operand W, 1 to 8
+ *              3   the marks at the information positions stayed the same at each of the last W iterations; operand W,
+ *                  1 to 8
  *
  * Written where the call returns 0, else unchanged:
  *   soft, coded_soft    [0..N-1]: how sure each position and each coded bit is; positive for 0, negative for 1
@@ -112,7 +120,8 @@ uint32_t vedrogne_front_erasing(
  *   *iterations         the iteration at which the decoder ended, 1 to T
  *   *reason             1: the criterion held; 2: the limit was reached without it
  *
- * Needed: N elements of mask, llr, soft, mark, coded_soft and coded_mark, 2 (m + 1) N of work. Numbers: 7 for settings, then 1 to 10.
+ * Needed: N elements of mask, llr, soft, mark, coded_soft and coded_mark, 2 (m + 1) N of work. Numbers: 7 for settings,
+ * then 1 to 10.
  */
 uint32_t vedrogne_decode(
     const uint32_t *settings, size_t settings_len,
@@ -127,9 +136,10 @@ uint32_t vedrogne_decode(
     uint32_t *reason);
 
 /*
- * Decodes as vedrogne_decode does, and counts the answer in tally[0..4]: blocks, endings by reason 1, endings by reason 2, refusals, iterations. A tally
- * starts with five zeros. Refusals 1 to 10 are counted, as a block with no iterations. A tally of fewer than five elements is refused with 7, then
- * a list of settings of fewer than six; then comes 15. Of these three none is counted, and the tally stays as it was.
+ * Decodes as vedrogne_decode does, and counts the answer in tally[0..4]: blocks, endings by reason 1, endings by reason
+ * 2, refusals, iterations. A tally starts with five zeros. Refusals 1 to 10 are counted, as a block with no iterations.
+ * A tally of fewer than five elements is refused with 7, then a list of settings of fewer than six; then comes 15. Of
+ * these three none is counted, and the tally stays as it was.
  */
 uint32_t vedrogne_decode_tallied(
     uint32_t *tally, size_t tally_len,
