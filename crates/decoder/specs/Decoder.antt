@@ -73,7 +73,8 @@ pub record Ending : Type 0 where
 -- the first iteration from t on where the criterion holds, with reason 1; if there is none among it and the n
 -- behind it, the last, with reason 2
 abbrev pub endingFrom : (ℕ → Bool) → ℕ → ℕ → Ending
-endingFrom holdsAt t zero = cond (holdsAt t) (record { iteration = t; reason = 1 }) (record { iteration = t; reason = 2 })
+endingFrom holdsAt t zero =
+    cond (holdsAt t) (record { iteration = t; reason = 1 }) (record { iteration = t; reason = 2 })
 endingFrom holdsAt t (suc n) = cond (holdsAt t) (record { iteration = t; reason = 1 }) (endingFrom holdsAt (suc t) n)
 
 -- from 1 to the limit T

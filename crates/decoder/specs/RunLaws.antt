@@ -135,7 +135,8 @@ module _ (s : Settings) (mask : List ℕ) where
   pub slices-marks : (t : ℕ) (first : Slices) → OutputsFit (2 ^ s .m) first → 1 ≤ t → (i : ℕ) → i < 2 ^ s .m
       → getD (slicesAfter s mask t first .mark) i 0 ≡ markAt s mask (slicesAfter s mask t first .work) i
   slices-marks zero first fits some i l = absurd (omega arith)
-  slices-marks (suc t) first fits some i l = outputs-marks s mask (workAfter s mask (first .work) (suc t)) first fits i l
+  slices-marks (suc t) first fits some i l =
+      outputs-marks s mask (workAfter s mask (first .work) (suc t)) first fits i l
 
 -- ---- `decode` is the run from the start
 

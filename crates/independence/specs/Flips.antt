@@ -24,7 +24,8 @@ use Rattle.polar.specs.TransformLaws.{column-coded}
 use Rattle.message.specs.declared.MinSum.{MinSum}
 use Rattle.message.specs.Message.{add, f}
 use Rattle.message.specs.MessageLaws.{f-flipped, add-flipped}
-use Rattle.sweeps.specs.Workspace.{row, L, R, setRow, setL, setR, workspaceLength}
+use Rattle.calls.specs.Bounds.{workspaceLength}
+use Rattle.sweeps.specs.Workspace.{row, L, R, setRow, setL, setR}
 use Rattle.sweeps.specs.WorkspaceLaws.{WorkspaceFits, row-lt, length-setRow, row-own, row-above, row-below}
 use Rattle.sweeps.specs.Iteration.{
   leftAt,

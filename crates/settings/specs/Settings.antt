@@ -5,7 +5,7 @@ use mathlib.Core.List.{List}
 use lib.Dec.{leb, eqb}
 use lib.IntN.{ℤ, pos, natAbs}
 use lib.ListN.{length, getD}
-use Rattle.calls.specs.Bounds.{largestM, largestCeiling, largestScale}
+use Rattle.calls.specs.Bounds.{largestM, largestCeiling, largestScale, workspaceLength}
 use Rattle.calls.specs.Every.{every}
 use Rattle.calls.specs.Numbers.{check, firstRefusal, between}
 use Rattle.polar.specs.Mask.{maskAccepted}
@@ -43,7 +43,7 @@ slicesFit m mask llr lengths =
     && leb (2 ^ m) (lengths .mark)
     && leb (2 ^ m) (lengths .«coded_soft»)
     && leb (2 ^ m) (lengths .«coded_mark»)
-    && leb (2 * (m + 1) * 2 ^ m) (lengths .work)
+    && leb (workspaceLength m) (lengths .work)
 
 -- 10. No LLR of the first n has a size above C
 abbrev pub withinCeiling : ℕ → ℕ → List ℤ → Bool

@@ -8,7 +8,7 @@ use lib.Dec.{leb}
 use lib.IntN.{ℤ, pos, natAbs}
 use lib.ListN.{length, getD}
 use borrow.Author.Tests.{leb-true}
-use Rattle.calls.specs.Bounds.{largestM, largestCeiling, largestScale}
+use Rattle.calls.specs.Bounds.{largestM, largestCeiling, largestScale, workspaceLength}
 use Rattle.calls.specs.EveryLaws.{every-at, every-same}
 use Rattle.calls.specs.NumberLaws.{check-passed, first-refusal-passed, and-passed, between-passed}
 use Rattle.calls.specs.Signs.{flipped}
@@ -77,7 +77,7 @@ pub record SlicesAccepted (m mask llr : ℕ) (lengths : Lengths) : Type 0 where
   pub mark-long : 2 ^ m ≤ lengths .mark
   pub coded-soft-long : 2 ^ m ≤ lengths .«coded_soft»
   pub coded-mark-long : 2 ^ m ≤ lengths .«coded_mark»
-  pub work-long : 2 * (m + 1) * 2 ^ m ≤ lengths .work
+  pub work-long : workspaceLength m ≤ lengths .work
 
 pub slices-accepted : (m mask llr : ℕ) (lengths : Lengths) → slicesFit m mask llr lengths ≡ true
     → SlicesAccepted m mask llr lengths

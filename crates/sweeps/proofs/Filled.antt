@@ -12,7 +12,7 @@ use lib.IntN.{ℤ, pos, natAbs}
 use lib.ListN.{length, set}
 use lib.Pow.{pow-pos, pow-lt, pow-mono}
 use borrow.Author.Tests.{eq-eqb, ne-eqb}
-use Rattle.calls.specs.Bounds.{largestM}
+use Rattle.calls.specs.Bounds.{largestM, workspaceLength}
 use Rattle.calls.specs.Memory.{overwriteFrom}
 use Rattle.calls.specs.MemoryLaws.{
   length-overwriteFrom,
@@ -25,7 +25,7 @@ use Rattle.calls.specs.MemoryLaws.{
 use Rattle.polar.specs.DigitLaws.{digit-cases, masked, weight-le, partner-lt}
 use Rattle.message.specs.declared.MinSum.{MinSum}
 use Rattle.message.specs.Message.{add, f}
-use Rattle.sweeps.specs.Workspace.{row, setRow, workspaceLength}
+use Rattle.sweeps.specs.Workspace.{row, setRow}
 use Rattle.sweeps.specs.WorkspaceLaws.{row-lt}
 use Rattle.sweeps.specs.IterationLaws.{WorkspaceValid, valid-written, joined-size}
 use Rattle.sweeps.specs.Private.{messageAt, newAt, Readable, joinedAt, rowPart, rowStep, Rows}

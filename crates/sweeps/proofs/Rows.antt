@@ -10,13 +10,13 @@ use lib.ListN.{length, set}
 use mir.Facts.{toZ-pos}
 use mir.Syntax.{w16}
 use mir.Val.{toZ}
-use Rattle.calls.specs.Bounds.{largestCeiling}
+use Rattle.calls.specs.Bounds.{largestCeiling, workspaceLength}
 use Rattle.calls.specs.Memory.{overwriteFrom}
 use Rattle.calls.specs.MemoryLaws.{length-overwriteFrom, overwriteFrom-none, overwriteFrom-store}
 use Rattle.calls.specs.Signs.{flipped}
 use Rattle.polar.specs.Mask.{byKind, isInformation}
 use Rattle.polar.specs.MaskLaws.{kind-information, kind-frozen, frozen-bit-zero}
-use Rattle.sweeps.specs.Workspace.{setRow, workspaceLength}
+use Rattle.sweeps.specs.Workspace.{setRow}
 use Rattle.sweeps.specs.WorkspaceLaws.{row-lt}
 
 -- the first i messages of row k are those of g

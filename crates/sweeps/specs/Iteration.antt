@@ -9,7 +9,8 @@ use Rattle.polar.specs.Mask.{byKind}
 use Rattle.polar.specs.Columns.{digit, bySide}
 use Rattle.message.specs.declared.MinSum.{MinSum}
 use Rattle.message.specs.Message.{add, f}
-use Rattle.sweeps.specs.Workspace.{L, R, setL, setR, workspaceLength}
+use Rattle.calls.specs.Bounds.{workspaceLength}
+use Rattle.sweeps.specs.Workspace.{L, R, setL, setR}
 
 module _ (rule : MinSum) where
   -- step s joins columns s and s + 1 over the distance d = 2 ^ t. l is column s + 1 of L and r is column s of R; an

@@ -7,7 +7,7 @@ use native.Mathlib.Nat.{le-trans, le-refl}
 use native.Mathlib.Omega.{arith}
 use lib.IntN.{ℤ, pos, natAbs}
 use lib.ListN.{length, getD}
-use Rattle.calls.specs.Bounds.{largestM, largestScale}
+use Rattle.calls.specs.Bounds.{largestM, largestScale, workspaceLength}
 use Rattle.calls.specs.Memory.{overwrite, overwriteFrom}
 use Rattle.calls.specs.MemoryLaws.{length-overwrite, length-overwriteFrom, overwriteFrom-every, overwrite-at}
 use Rattle.calls.specs.Signs.{flipped}
@@ -17,7 +17,7 @@ use Rattle.polar.specs.DigitLaws.{digit-cases}
 use Rattle.message.specs.declared.MinSum.{MinSum}
 use Rattle.message.specs.Message.{add, f}
 use Rattle.message.specs.MessageLaws.{RuleInRange, add-size, add-comm, f-size-second}
-use Rattle.sweeps.specs.Workspace.{L, R, row, setRow, workspaceLength}
+use Rattle.sweeps.specs.Workspace.{L, R, row, setRow}
 use Rattle.sweeps.specs.WorkspaceLaws.{WorkspaceFits, length-setRow}
 use Rattle.sweeps.specs.Private.{joinedAt, rowStep}
 use Rattle.sweeps.specs.Iteration.{

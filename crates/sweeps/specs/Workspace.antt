@@ -24,7 +24,3 @@ setL m s g w = setRow m s g w
 
 abbrev pub setR : ℕ → ℕ → (ℕ → ℤ) → List ℤ → List ℤ
 setR m s g w = setRow m (m + 1 + s) g w
-
--- how many elements the workspace needs: 2 (m + 1) N
-abbrev pub workspaceLength : ℕ → ℕ
-workspaceLength m = 2 * (m + 1) * 2 ^ m

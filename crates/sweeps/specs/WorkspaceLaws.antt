@@ -9,7 +9,8 @@ use lib.IntN.{ℤ, pos}
 use lib.ListN.{length}
 use Rattle.calls.specs.Memory.{overwriteFrom}
 use Rattle.calls.specs.MemoryLaws.{length-overwriteFrom, overwriteFrom-at, overwriteFrom-before, overwriteFrom-behind}
-use Rattle.sweeps.specs.Workspace.{row, setRow, workspaceLength}
+use Rattle.calls.specs.Bounds.{workspaceLength}
+use Rattle.sweeps.specs.Workspace.{row, setRow}
 
 -- the workspace lies in the list
 abbrev pub WorkspaceFits : ℕ → List ℤ → Type 0

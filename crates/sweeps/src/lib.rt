@@ -9,11 +9,11 @@ ghost use lib.Bits.{bitAnd};
 ghost use lib.Dec.{eqb};
 ghost use lib.IntN.{pos, natAbs};
 ghost use lib.ListN.{length, getD};
-ghost use Rattle.calls.specs.Bounds.{largestM, largestCeiling};
+ghost use Rattle.calls.specs.Bounds.{largestM, largestCeiling, workspaceLength};
 ghost use Rattle.calls.specs.Memory.{overwrite};
 ghost use Rattle.message.specs.Message.{add, f};
 ghost use Rattle.message.specs.MessageLaws.{RuleInRange};
-ghost use Rattle.sweeps.specs.Workspace.{setL, setR, workspaceLength};
+ghost use Rattle.sweeps.specs.Workspace.{setL, setR};
 ghost use Rattle.sweeps.specs.Iteration.{leftSteps, rightSteps, iteration, prior, start};
 ghost use Rattle.sweeps.specs.Private.{
   messageAt,

@@ -51,7 +51,8 @@ module _ (c : tie.After-copy) where
 
   copied : Holds (entry .args .m) (now (entry .args .marks)) (c .copy .last .1 .1 .0)
   copied =
-      copied-holds (replicate mostPositions 0) _ (entry .pre .1 .0) (marks-clear clear) (room (entry .args .m) (entry .pre .0))
+      copied-holds (replicate mostPositions 0) _ (entry .pre .1 .0) (marks-clear clear)
+      (room (entry .args .m) (entry .pre .0))
       (rw (length-is (powered clear)) at (c .copy .ensures))
 
 power-of-two-requires : tie.Need-power-of-two-requires
