@@ -220,12 +220,12 @@ impl Memory {
         mask: &[u8],
         before: &[u8],
         soft: &[i16],
-        _coded: &[u8],
+        coded: &[u8],
     ) -> Memory
         requires { ⌜ (m ≤ largestM) × MemoryInRange self ⌝ }
         requires { ⌜ (2 ^ m ≤ length (now mask)) × (2 ^ m ≤ length (now before)) × (2 ^ m ≤ length (now soft)) ⌝ }
         ensures { λ r. ⌜ r ≡ memoryNext m criterion (now (mask .entry)) self (λ i. getD (now (before .entry)) i 0)
-            (λ i. getD (now (soft .entry)) i (pos 0)) (λ i. getD (now («_coded» .entry)) i 0) ⌝ }
+            (λ i. getD (now (soft .entry)) i (pos 0)) (λ i. getD (now (coded .entry)) i 0) ⌝ }
     {
         let iterations = self.iterations;
         let steady = self.steady_next(m, criterion, mask, before, soft);

@@ -91,10 +91,10 @@ fn criterion_of(settings: Settings) -> Criterion
 
 // The soft output of a position from its mask byte and the messages of both directions. The
 // mask byte makes no difference yet.
-fn soft_output(rule: MinSum, _kind: u8, left: i16, right: i16) -> i16
+fn soft_output(rule: MinSum, kind: u8, left: i16, right: i16) -> i16
     requires { ⌜ RuleInRange rule ⌝ }
     requires { ⌜ (natAbs left ≤ rule .ceiling) × (natAbs right ≤ rule .ceiling) ⌝ }
-    ensures { λ r. ⌜ r ≡ softOf rule «_kind» left right ⌝ }
+    ensures { λ r. ⌜ r ≡ softOf rule kind left right ⌝ }
 {
     message::add_cut(rule, left, right)
 }
