@@ -1,4 +1,5 @@
--- Laws of a loop that writes a slice from its first element on: `Written i g old now` is its invariant, `overwrite` what it ends in.
+-- Laws of a loop that writes a slice from its first element on: `Written i g old now` is its
+-- invariant, `overwrite` what it ends in.
 use Prim.Native.Nat.{ℕ, _+_, _≤_, _<_}
 use mathlib.Core.Path.{_≡_, refl, ap, _∙_}
 use mathlib.Core.List.{List}

@@ -103,7 +103,8 @@ mask-bit (negsuc n) = refl
 mask-zero : (z : ℤ) → byKind (maskValue z) true (λ bit. false) ≡ inRange 0 0 z
 mask-zero (pos zero) = refl
 mask-zero (pos (suc n)) =
-    ap (λ (k : ℕ). byKind k true (λ bit. false)) least ∙ sym (rw (lt-leb (suc n) 0 (omega arith)) (and-false (leb 0 (suc n))))
+    ap (λ (k : ℕ). byKind k true (λ bit. false)) least
+    ∙ sym (rw (lt-leb (suc n) 0 (omega arith)) (and-false (leb 0 (suc n))))
   where
     least : min (suc n) 255 ≡ suc (min n 254)
     least = omega arith
@@ -136,7 +137,8 @@ mask-some (suc n) mask =
     rw (List·getD-map maskValue mask n (pos 0), ← mask-some n mask, ← mask-zero (getD mask n (pos 0)))
     (one-more (informationCount (map maskValue mask) n) (maskValue (getD mask n (pos 0))))
   where
-    one-more : (count kind : ℕ) → leb 1 (count + byKind kind 1 (λ bit. 0)) ≡ (leb 1 count || byKind kind true (λ bit. false))
+    one-more : (count kind : ℕ)
+        → leb 1 (count + byKind kind 1 (λ bit. 0)) ≡ (leb 1 count || byKind kind true (λ bit. false))
     one-more zero zero = refl
     one-more zero (suc k) = refl
     one-more (suc c) zero = le-leb 1 (suc c + 1) (omega arith) ∙ sym (rw (le-leb 1 (suc c) (omega arith)))

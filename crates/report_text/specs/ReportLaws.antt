@@ -96,7 +96,8 @@ position-lines-room values (suc n) p short =
       length-append (line (values p)) (positionLines values n (suc p)),
     )
 
-pub outputs-short : (s : Settings) (mask : List ℕ) (w : List ℤ) (i : ℕ) → s .ceiling ≤ largestCeiling → i < mostPositions
+pub outputs-short : (s : Settings) (mask : List ℕ) (w : List ℤ) (i : ℕ) → s .ceiling ≤ largestCeiling
+    → i < mostPositions
     → length (line (outputsAt s mask w i)) ≤ 30
 outputs-short s mask w i C h =
     line-length (outputsAt s mask w i) (omega (
@@ -161,7 +162,8 @@ decoded-block {s} {block} before {after} fit d lengths =
       ceiling-le = ok .settings .ceiling-le;
     }
 
-module _ {s : Settings} {block : Block} {work : List ℤ} {after : Slices} {r : Outcome} (b : DecodedBlock s block work after r) where
+module _ {s : Settings} {block : Block} {work : List ℤ} {after : Slices} {r : Outcome}
+    (b : DecodedBlock s block work after r) where
   -- it isn't refused
   pub not-refused : (refusal : Refusal) → r ≡ Refused refusal → ⊥
   not-refused refusal e = true≢false (ap isRefusal (sym (ap resultOf e) ∙ b .answer))
@@ -198,4 +200,5 @@ module _ {s : Settings} {block : Block} {work : List ℤ} {after : Slices} {r : 
       ap (λ (x : Ending). outcomeText x n shownValues) (ending-is t reason e)
       ∙ ap (λ (k : ℕ). outcomeText (endingOn s block work) k shownValues) size
       ∙ ap (λ (l : List ℕ). headingText (endingOn s block work) ++ l)
-      (position-lines-same shownValues (outputsAt s (block .mask) (finalOn s block work)) (2 ^ s .m) 0 (λ i l h. b .values i (omega arith)))
+      (position-lines-same shownValues (outputsAt s (block .mask) (finalOn s block work)) (2 ^ s .m) 0
+      (λ i l h. b .values i (omega arith)))

@@ -46,13 +46,10 @@ module _ (c : tie.After-copy) where
   abbrev clear : tie.Else2
   clear = c .before .before
 
-  abbrev entry : tie.Start
-  entry = start (powered clear)
-
-  copied : Holds (entry .args .m) (now (entry .args .marks)) (c .copy .last .1 .1 .0)
+  copied : Holds (start (powered clear) .args .m) (now (start (powered clear) .args .marks)) (c .copy .last .1 .1 .0)
   copied =
-      copied-holds (replicate mostPositions 0) _ (entry .pre .1 .0) (marks-clear clear)
-      (room (entry .args .m) (entry .pre .0))
+      let s = start (powered clear) in
+      copied-holds (replicate mostPositions 0) _ (s .pre .1 .0) (marks-clear clear) (room (s .args .m) (s .pre .0))
       (rw (length-is (powered clear)) at (c .copy .ensures))
 
 power-of-two-requires : tie.Need-power-of-two-requires
@@ -90,7 +87,8 @@ slice-aggregate-transform : tie.Need-slice-aggregate-transform
 slice-aggregate-transform c = search needs
 
 transform-requires : tie.Need-transform-requires
-transform-requires c κs = (entry (c .before .before) .pre .0, holds-bits (copied (c .before .before)))
+transform-requires c κs =
+    let copying = c .before .before in (start (powered (clear copying)) .pre .0, holds-bits (copied copying))
 
 slice-aggregate-equal : tie.Need-slice-aggregate-equal
 slice-aggregate-equal c = search needs
@@ -99,16 +97,18 @@ equal-requires : tie.Need-equal-requires
 equal-requires c κs =
     let coding = c .before .before in
     let copying = coding .before .before .before in
-    rw (length-is (powered (clear copying)))
-    (coded-long (copied copying) _ (coding .transform .ensures), entry copying .pre .1 .1 .long)
+    let powering = powered (clear copying) in
+    rw (length-is powering)
+    (coded-long (copied copying) _ (coding .transform .ensures), start powering .pre .1 .1 .long)
 
 returns-3 : tie.Need-returns-3
 returns-3 c =
     let coding = c .before .before .before in
     let copying = coding .before .before .before in
-    rw (length-is (powered (clear copying))) at (c .equal .ensures)
-    ∙ compared (copied copying) _ (coding .transform .ensures) (entry copying .pre .1 .1) (marks-clear (clear copying))
-    (coded-clear (clear copying))
+    let past = clear copying in
+    rw (length-is (powered past)) at (c .equal .ensures)
+    ∙ compared (copied copying) _ (coding .transform .ensures) (start (powered past) .pre .1 .1) (marks-clear past)
+    (coded-clear past)
 
 pub g-matrix-spec : {M : Type 1} → statement M
 g-matrix-spec =

@@ -32,7 +32,8 @@ module _ (c : tie.After-decode) where
 
   abbrev lent : Slices
   lent =
-      slices (replicate mostPositions (pos 0)) (replicate mostPositions 0) (replicate mostPositions (pos 0)) (replicate mostPositions 0)
+      slices (replicate mostPositions (pos 0)) (replicate mostPositions 0) (replicate mostPositions (pos 0))
+      (replicate mostPositions 0)
       (start .args .work .now)
 
   lengths : lengthsOf lent ≡ largestLengths
