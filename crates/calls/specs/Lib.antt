@@ -1,7 +1,7 @@
 pub mod Numbers
 pub mod NumberLaws
-pub mod Memory
-pub mod MemoryLaws
+pub mod LentMemory
+pub mod LentMemoryLaws
 pub mod WrittenLaws
 pub mod Signs
 pub mod SignLaws

@@ -23,7 +23,7 @@ use Rattle.calls.specs.declared.Refusal.the-variants.{
   MalformedText,
   UnusableTally,
 }
-use Rattle.calls.specs.Memory.{unlessRefused}
+use Rattle.calls.specs.LentMemory.{unlessRefused}
 use Rattle.calls.specs.Numbers.{refusalNumber, check, firstRefusal, between}
 
 -- no refusal's number is 0, and none has more than two digits

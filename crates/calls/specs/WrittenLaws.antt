@@ -6,8 +6,8 @@ use mathlib.Core.List.{List}
 use native.Mathlib.Numerals.{add-one}
 use native.Mathlib.Omega.{arith}
 use lib.ListN.{length, getD, set}
-use Rattle.calls.specs.Memory.{overwrite}
-use Rattle.calls.specs.MemoryLaws.{length-overwrite, overwrite-at, overwrite-store}
+use Rattle.calls.specs.LentMemory.{overwrite}
+use Rattle.calls.specs.LentMemoryLaws.{length-overwrite, overwrite-at, overwrite-store}
 
 -- the first i elements are written
 pub record Written {A : Type 0} (i : ℕ) (g : ℕ → A) (old now : List A) : Type 0 where

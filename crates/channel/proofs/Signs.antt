@@ -8,8 +8,8 @@ use lib.IntN.{ℤ, pos, negℤ}
 use lib.ListN.{getD}
 use lib.Ieee.{Float, nan, inf, fin, neg}
 use borrow.Author.Tests.{le-leb}
-use Rattle.calls.specs.Memory.{overwrite}
-use Rattle.calls.specs.MemoryLaws.{overwrite-same}
+use Rattle.calls.specs.LentMemory.{overwrite}
+use Rattle.calls.specs.LentMemoryLaws.{overwrite-same}
 use Rattle.channel.specs.Front.{withSampleSign, nearest, quantised}
 use Rattle.channel.specs.FrontLaws.{rounded-zero, quantised-odd}
 use Rattle.channel.specs.Private.{bySign}

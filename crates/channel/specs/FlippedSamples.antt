@@ -4,7 +4,7 @@ use mathlib.Core.Bool.{Bool, true, false}
 use mathlib.Core.List.{List}
 use lib.ListN.{getD}
 use lib.Ieee.{Float, nan, neg}
-use Rattle.calls.specs.Memory.{overwrite}
+use Rattle.calls.specs.LentMemory.{overwrite}
 
 abbrev pub flippedSample : Bool → Float → Float
 flippedSample true x = neg x

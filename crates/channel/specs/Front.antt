@@ -10,7 +10,7 @@ use lib.Ieee.{Float, nan, inf, fin, up, down, neg, mul, binary32}
 use Rattle.calls.specs.Bounds.{largestM, largestCeiling}
 use Rattle.calls.specs.Numbers.{check, between}
 use Rattle.calls.specs.Every.{every}
-use Rattle.calls.specs.Memory.{overwrite, unlessRefused}
+use Rattle.calls.specs.LentMemory.{overwrite, unlessRefused}
 use Rattle.calls.specs.Signs.{flipped}
 use Rattle.channel.specs.declared.Channel.{Channel}
 use Rattle.channel.specs.declared.Channel.the-variants.{Gaussian, Flipping, Erasing}

@@ -26,11 +26,11 @@ use lib.Ieee.{Float, nan, inf, fin, Format, binary32, prec, emax, low, up, down,
 use lib.Ieee.Fits.{down-pos}
 use lib.Ieee.Nearest.{div-same}
 use borrow.Author.Tests.{leb-true, leb-false, le-leb, lt-leb}
-use Rattle.calls.specs.Memory.{overwrite, unlessRefused}
+use Rattle.calls.specs.LentMemory.{overwrite, unlessRefused}
 use Rattle.calls.specs.Signs.{flipped}
 use Rattle.calls.specs.SignLaws.{size-flipped, flipped-xor}
 use Rattle.calls.specs.EveryLaws.{every-same}
-use Rattle.calls.specs.MemoryLaws.{length-overwrite, overwrite-same}
+use Rattle.calls.specs.LentMemoryLaws.{length-overwrite, overwrite-same}
 use Rattle.channel.specs.Front.{
   withSampleSign,
   valueOf,

@@ -10,7 +10,7 @@ ghost use lib.Ieee.{binary32, mul, nan, isNan};
 ghost use lib.ListN.{length, getD};
 ghost use Rattle.calls.specs.Bounds.{largestCeiling};
 ghost use Rattle.calls.specs.Numbers.{numberOf};
-ghost use Rattle.calls.specs.Memory.{overwrite};
+ghost use Rattle.calls.specs.LentMemory.{overwrite};
 ghost use Rattle.channel.specs.Front.{
   quantised,
   roundedSize,

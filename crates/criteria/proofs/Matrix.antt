@@ -10,8 +10,8 @@ use borrow.Author.Tests.{not-true, eqb-false}
 use lib.Dec.{eqb}
 use lib.ListN.{length, getD}
 use Rattle.calls.specs.Bounds.{largestM, mostPositions}
-use Rattle.calls.specs.Memory.{overwrite}
-use Rattle.calls.specs.MemoryLaws.{length-overwrite, overwrite-at}
+use Rattle.calls.specs.LentMemory.{overwrite}
+use Rattle.calls.specs.LentMemoryLaws.{length-overwrite, overwrite-at}
 use Rattle.calls.specs.Bits.{byteOf, bitOf}
 use Rattle.polar.specs.Code.{coded}
 use Rattle.polar.specs.BlockLaws.{bitsOf, Bits}

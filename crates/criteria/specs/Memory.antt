@@ -58,8 +58,8 @@ memoryNext m criterion mask memory before soft codedMark =
     }
 
 -- whether the criterion holds, from what it remembers after the iteration, its soft values, marks and coded marks
-abbrev pub holdsNow : ℕ → Criterion → Memory → (ℕ → ℤ) → (ℕ → ℕ) → (ℕ → ℕ) → Bool
-holdsNow m Never memory soft mark codedMark = false
-holdsNow m GMatrix memory soft mark codedMark = gMatrix m mark codedMark
-holdsNow m (LeastSize operand) memory soft mark codedMark = leastSize (2 ^ m) operand soft
-holdsNow m (Steady W) memory soft mark codedMark = leb W (memory .steady)
+abbrev pub holdsNow : ℕ → Criterion → List ℕ → Memory → (ℕ → ℤ) → (ℕ → ℕ) → (ℕ → ℕ) → Bool
+holdsNow m Never mask memory soft mark codedMark = false
+holdsNow m GMatrix mask memory soft mark codedMark = gMatrix m mark codedMark
+holdsNow m (LeastSize operand) mask memory soft mark codedMark = leastSize (2 ^ m) operand soft
+holdsNow m (Steady W) mask memory soft mark codedMark = leb W (memory .steady)

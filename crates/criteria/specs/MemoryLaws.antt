@@ -26,7 +26,7 @@ use Rattle.criteria.specs.Memory.{
   memoryNext,
   holdsNow,
 }
-use Rattle.criteria.specs.Private.{MemoryInRange}
+use Rattle.criteria.specs.Private.{mostRemembered, MemoryInRange}
 use Rattle.calls.specs.EveryLaws.{every-same, every-first}
 use Rattle.criteria.specs.CriteriaLaws.{g-matrix-same, least-size-same, same-marks-same}
 
@@ -97,14 +97,15 @@ module _ (m : ℕ) (criterion : Criterion) (mask : List ℕ) (soft codedSoft : �
   count-le (LeastSize operand) = zero-le
   count-le (Steady W) = steady-count-le kept-at t
 
-  pub memory-in-range : {memory : Memory} → memory ≡ memoryAfter m criterion mask soft codedSoft t → t < 1000
+  pub memory-in-range : {memory : Memory} → memory ≡ memoryAfter m criterion mask soft codedSoft t → t < mostRemembered
       → MemoryInRange memory
   memory-in-range is l = rw is record { iterations-lt = l; steady-le = count-le criterion }
 
   -- `before` are the marks of iteration t, if there was one; value and codedMark are the soft values and
   -- the coded marks of iteration t + 1
   module _ (before : ℕ → ℕ) (marks : 1 ≤ t → (i : ℕ) → i < 2 ^ m → before i ≡ markOf (soft t i))
-      (value : ℕ → ℤ) (values : (i : ℕ) → i < 2 ^ m → value i ≡ soft (suc t) i) where
+      (value : ℕ → ℤ) (values : (i : ℕ) → i < 2 ^ m → value i ≡ soft (suc t) i)
+      (codedMark : ℕ → ℕ) (codedMarks : (i : ℕ) → i < 2 ^ m → codedMark i ≡ markOf (codedSoft (suc t) i)) where
     abbrev same : Bool
     same = sameMarks (2 ^ m) mask before (λ i. markOf (value i))
 
@@ -127,19 +128,18 @@ module _ (m : ℕ) (criterion : Criterion) (mask : List ℕ) (soft codedSoft : �
         steady-from zero is = refl
         steady-from (suc n) is = rw (is (omega arith)) (steady-next kept-at (suc n))
 
-    pub memory-next : (codedMark : ℕ → ℕ) {memory : Memory} → memory ≡ memoryAfter m criterion mask soft codedSoft t
+    pub memory-next : {memory : Memory} → memory ≡ memoryAfter m criterion mask soft codedSoft t
         → memoryNext m criterion mask memory before value codedMark
         ≡ memoryAfter m criterion mask soft codedSoft (suc t)
-    memory-next codedMark is = rw is (λ i. record { iterations = add-one t i; steady = count-next criterion i })
+    memory-next is = rw is (λ i. record { iterations = add-one t i; steady = count-next criterion i })
 
-    pub holds-next : (codedMark : ℕ → ℕ) → ((i : ℕ) → i < 2 ^ m → codedMark i ≡ markOf (codedSoft (suc t) i))
-        → {memory : Memory} → memory ≡ memoryAfter m criterion mask soft codedSoft (suc t)
-        → holdsNow m criterion memory value (λ i. markOf (value i)) codedMark
+    pub holds-next : {memory : Memory} → memory ≡ memoryAfter m criterion mask soft codedSoft (suc t)
+        → holdsNow m criterion mask memory value (λ i. markOf (value i)) codedMark
         ≡ holds m criterion mask soft codedSoft (suc t)
-    holds-next codedMark codedMarks is = rw is (by-criterion criterion)
+    holds-next is = rw is (by-criterion criterion)
       where
         by-criterion : (c : Criterion)
-            → holdsNow m c (memoryAfter m c mask soft codedSoft (suc t)) value (λ i. markOf (value i)) codedMark
+            → holdsNow m c mask (memoryAfter m c mask soft codedSoft (suc t)) value (λ i. markOf (value i)) codedMark
             ≡ holds m c mask soft codedSoft (suc t)
         by-criterion Never = refl
         by-criterion GMatrix = g-matrix-same m _ _ codedMark _ (λ i l. ap markOf (values i l)) codedMarks
@@ -149,22 +149,22 @@ module _ (m : ℕ) (criterion : Criterion) (mask : List ℕ) (soft codedSoft : �
 -- the criterion reads the first 2 ^ m places alone
 pub memory-next-same : (m : ℕ) (criterion : Criterion) (mask : List ℕ) (memory : Memory) (before : ℕ → ℕ)
     (soft soft′ : ℕ → ℤ) (coded coded′ : ℕ → ℕ)
-    → ((i : ℕ) → i < 2 ^ m → soft i ≡ soft′ i)
+    → ((i : ℕ) → i < 2 ^ m → soft i ≡ soft′ i) → ((i : ℕ) → i < 2 ^ m → coded i ≡ coded′ i)
     → memoryNext m criterion mask memory before soft coded ≡ memoryNext m criterion mask memory before soft′ coded′
-memory-next-same m criterion mask memory before soft soft′ coded coded′ h =
+memory-next-same m criterion mask memory before soft soft′ coded coded′ h k =
     let same : sameMarks (2 ^ m) mask before (λ i. markOf (soft i))
     ≡ sameMarks (2 ^ m) mask before (λ i. markOf (soft′ i))
     = same-marks-same (2 ^ m) mask before before _ _ (λ i l. refl) (λ i l. ap markOf (h i l)) in
     rw same
 
-pub holds-now-same : (m : ℕ) (criterion : Criterion) (memory : Memory) (soft soft′ : ℕ → ℤ)
+pub holds-now-same : (m : ℕ) (criterion : Criterion) (mask : List ℕ) (memory : Memory) (soft soft′ : ℕ → ℤ)
     (mark mark′ coded coded′ : ℕ → ℕ)
     → ((i : ℕ) → i < 2 ^ m → soft i ≡ soft′ i) → ((i : ℕ) → i < 2 ^ m → mark i ≡ mark′ i)
     → ((i : ℕ) → i < 2 ^ m → coded i ≡ coded′ i)
-    → holdsNow m criterion memory soft mark coded ≡ holdsNow m criterion memory soft′ mark′ coded′
-holds-now-same m Never memory soft soft′ mark mark′ coded coded′ es em ec = refl
-holds-now-same m GMatrix memory soft soft′ mark mark′ coded coded′ es em ec =
+    → holdsNow m criterion mask memory soft mark coded ≡ holdsNow m criterion mask memory soft′ mark′ coded′
+holds-now-same m Never mask memory soft soft′ mark mark′ coded coded′ es em ec = refl
+holds-now-same m GMatrix mask memory soft soft′ mark mark′ coded coded′ es em ec =
     g-matrix-same m mark mark′ coded coded′ em ec
-holds-now-same m (LeastSize operand) memory soft soft′ mark mark′ coded coded′ es em ec =
+holds-now-same m (LeastSize operand) mask memory soft soft′ mark mark′ coded coded′ es em ec =
     least-size-same (2 ^ m) operand soft soft′ es
-holds-now-same m (Steady W) memory soft soft′ mark mark′ coded coded′ es em ec = refl
+holds-now-same m (Steady W) mask memory soft soft′ mark mark′ coded coded′ es em ec = refl

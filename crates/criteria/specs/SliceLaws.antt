@@ -6,8 +6,8 @@ use native.Mathlib.Omega.{arith}
 use lib.IntN.{ℤ, pos, natAbs}
 use lib.ListN.{length, getD}
 use Rattle.calls.specs.Bounds.{largestCeiling}
-use Rattle.calls.specs.Memory.{overwrite}
-use Rattle.calls.specs.MemoryLaws.{overwrite-same}
+use Rattle.calls.specs.LentMemory.{overwrite}
+use Rattle.calls.specs.LentMemoryLaws.{overwrite-same}
 use Rattle.calls.specs.WrittenLaws.{Written, written-length, written-at}
 use Rattle.criteria.specs.Marks.{markOf}
 use Rattle.criteria.specs.CriteriaLaws.{mark-le}

@@ -9,12 +9,12 @@ ghost use lib.IntN.{pos};
 ghost use lib.ListN.{length, getD};
 ghost use Rattle.calls.specs.Bounds.{largestM};
 ghost use Rattle.polar.specs.Mask.{byKind};
-ghost use Rattle.calls.specs.Memory.{overwrite};
+ghost use Rattle.calls.specs.LentMemory.{overwrite};
 ghost use Rattle.criteria.specs.Marks.{markOf};
 ghost use Rattle.calls.specs.Every.{every};
 ghost use Rattle.criteria.specs.Criteria.{untied, gMatrix, leastSize, sameMarks};
 ghost use Rattle.criteria.specs.Memory.{steadyNext, countFor, nothing, memoryNext, holdsNow};
-ghost use Rattle.criteria.specs.Private.{SoftValues, MarkBytes, MemoryInRange, CriterionTried};
+ghost use Rattle.criteria.specs.Private.{SoftValues, MarkBytes, mostRemembered, MemoryInRange, CriterionTried};
 use calls::MOST_POSITIONS;
 
 // The criterion that ends the decoding. A later criterion joins them here.
@@ -26,7 +26,7 @@ pub enum Criterion {
 }
 
 // The mark of a soft value.
-pub fn mark(value: i16) -> u8
+fn mark(value: i16) -> u8
     ensures { λ r. ⌜ r ≡ markOf value ⌝ }
 {
     if value < 0 {
@@ -52,7 +52,7 @@ pub fn mark_all(n: usize, soft: &[i16], marks: &mut [u8])
 }
 
 // Whether no tie is among the first n marks.
-pub fn untied(marks: &[u8], n: usize) -> bool
+fn untied(marks: &[u8], n: usize) -> bool
     requires { ⌜ n ≤ length (now marks) ⌝ }
     ensures { λ r. ⌜ r ≡ untied n (λ i. getD (now (marks .entry)) i 0) ⌝ }
 {
@@ -66,7 +66,7 @@ pub fn untied(marks: &[u8], n: usize) -> bool
 }
 
 // Criterion 2 of the first n soft values. It keeps the least size, which needs no branch.
-pub fn least_size(operand: u16, soft: &[i16], n: usize) -> bool
+fn least_size(operand: u16, soft: &[i16], n: usize) -> bool
     requires { ⌜ SoftValues n (now soft) ⌝ }
     ensures { λ r. ⌜ r ≡ leastSize n operand (λ i. getD (now (soft .entry)) i (pos 0)) ⌝ }
 {
@@ -87,7 +87,7 @@ fn keeps_mark(kind: u8, before: u8, now: u8) -> bool
 }
 
 // Whether the marks of the first n soft values are those of the iteration before, at the information positions.
-pub fn same_marks(mask: &[u8], before: &[u8], soft: &[i16], n: usize) -> bool
+fn same_marks(mask: &[u8], before: &[u8], soft: &[i16], n: usize) -> bool
     requires { ⌜ (n ≤ length (now mask)) × (n ≤ length (now before)) × (n ≤ length (now soft)) ⌝ }
     ensures { λ r. ⌜ r ≡ sameMarks n (now (mask .entry)) (λ i. getD (now (before .entry)) i 0)
         (λ i. markOf (getD (now (soft .entry)) i (pos 0))) ⌝ }
@@ -128,7 +128,7 @@ fn equal(a: &[u8], b: &[u8], n: usize) -> bool
 }
 
 // Criterion 1: no tie, and the marks coded give the coded marks.
-pub fn g_matrix(m: u32, marks: &[u8], coded: &[u8]) -> bool
+fn g_matrix(m: u32, marks: &[u8], coded: &[u8]) -> bool
     requires { ⌜ m ≤ largestM ⌝ }
     requires { ⌜ MarkBytes (2 ^ m) (now marks) × MarkBytes (2 ^ m) (now coded) ⌝ }
     ensures { λ r. ⌜ r ≡ gMatrix m (λ i. getD (now (marks .entry)) i 0) (λ i. getD (now (coded .entry)) i 0) ⌝ }
@@ -149,7 +149,7 @@ pub fn g_matrix(m: u32, marks: &[u8], coded: &[u8]) -> bool
 // The steady count after one iteration more: the first iteration has none before it, and a change of
 // the marks starts the count again.
 fn steady_after(iterations: u32, steady: u32, same: bool) -> u32
-    requires { ⌜ steady < 1000 ⌝ }
+    requires { ⌜ steady < mostRemembered ⌝ }
     ensures { λ r. ⌜ r ≡ steadyNext iterations steady same ⌝ }
 {
     if iterations == 0 {
@@ -241,13 +241,15 @@ fn holds_now(
     m: u32,
     criterion: Criterion,
     memory: Memory,
+    mask: &[u8],
     soft: &[i16],
     marks: &[u8],
     coded: &[u8],
 ) -> bool
     requires { ⌜ m ≤ largestM ⌝ }
+    requires { ⌜ 2 ^ m ≤ length (now mask) ⌝ }
     requires { ⌜ SoftValues (2 ^ m) (now soft) × MarkBytes (2 ^ m) (now marks) × MarkBytes (2 ^ m) (now coded) ⌝ }
-    ensures { λ r. ⌜ r ≡ holdsNow m criterion memory (λ i. getD (now (soft .entry)) i (pos 0))
+    ensures { λ r. ⌜ r ≡ holdsNow m criterion (now (mask .entry)) memory (λ i. getD (now (soft .entry)) i (pos 0))
         (λ i. getD (now (marks .entry)) i 0) (λ i. getD (now (coded .entry)) i 0) ⌝ }
 {
     match criterion {
@@ -277,7 +279,7 @@ pub fn try_criterion(
 {
     let next = memory.next(m, criterion, mask, marks, soft, coded);
     mark_all(polar::power_of_two(m), soft, marks);
-    let holds = holds_now(m, criterion, next, soft, marks, coded);
+    let holds = holds_now(m, criterion, next, mask, soft, marks, coded);
     Progress {
         memory: next,
         holds,

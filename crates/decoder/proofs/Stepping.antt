@@ -6,7 +6,7 @@ use mathlib.Core.List.{List}
 use lib.IntN.{ℤ, pos}
 use lib.ListN.{getD}
 use Rattle.calls.specs.Bounds.{largestCeiling}
-use Rattle.calls.specs.Memory.{overwrite}
+use Rattle.calls.specs.LentMemory.{overwrite}
 use Rattle.calls.specs.WrittenLaws.{Written, written-at}
 use Rattle.sweeps.specs.Iteration.{iteration}
 use Rattle.criteria.specs.declared.Criterion.{Criterion}
@@ -53,6 +53,8 @@ module _ (s : Settings) (mask : List ℕ) (before : Slices) (fits : OutputsFit (
       (before .mark) mark r) is given in
       let values : (i : ℕ) → i < 2 ^ s .m → getD soft i (pos 0) ≡ softAt s mask work i =
       λ i l. written-at softs i (pos 0) l (fits .soft) in
+      let codedValues : (i : ℕ) → i < 2 ^ s .m → getD codedMark i 0 ≡ codedMarkAt s work i =
+      λ i l. written-at codedMarks i 0 l (fits .codedMark) in
       record {
         slices =
             slices-same soft-is (marked softs (fits .soft) (before .mark) mark (tried .marks-are)) codedSoft-is
@@ -61,9 +63,9 @@ module _ (s : Settings) (mask : List ℕ) (before : Slices) (fits : OutputsFit (
         memory-is =
             tried .memory-is
             ∙ memory-next-same (s .m) (criterionOf s) mask memory (λ i. getD (before .mark) i 0) _ (softAt s mask work)
-            (λ i. getD codedMark i 0) (codedMarkAt s work) values;
+            (λ i. getD codedMark i 0) (codedMarkAt s work) values codedValues;
         holds-is =
             tried .holds-is
-            ∙ holds-now-same (s .m) (criterionOf s) (r .memory) _ (softAt s mask work) _ _ _ (codedMarkAt s work) values
-            (λ i l. ap markOf (values i l)) (λ i l. written-at codedMarks i 0 l (fits .codedMark));
+            ∙ holds-now-same (s .m) (criterionOf s) mask (r .memory) _ (softAt s mask work) _ _ _ (codedMarkAt s work)
+            values (λ i l. ap markOf (values i l)) codedValues;
       }

@@ -7,7 +7,7 @@ use mathlib.Core.List.{List}
 use lib.IntN.{ℤ}
 use lib.ListN.{getD}
 use Rattle.calls.specs.Numbers.{refusalNumber}
-use Rattle.calls.specs.Memory.{overwrite, unlessRefused}
+use Rattle.calls.specs.LentMemory.{overwrite, unlessRefused}
 use Rattle.message.specs.declared.MinSum.{MinSum}
 use Rattle.message.specs.Message.{add}
 use Rattle.sweeps.specs.Workspace.{L, R}

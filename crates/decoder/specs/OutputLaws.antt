@@ -7,10 +7,11 @@ use mathlib.Core.List.{List}
 use native.Mathlib.Omega.{arith}
 use lib.IntN.{ℤ, natAbs}
 use lib.ListN.{length, getD}
-use Rattle.calls.specs.MemoryLaws.{length-overwrite, overwrite-at, overwrite-twice}
+use Rattle.calls.specs.LentMemoryLaws.{length-overwrite, overwrite-at, overwrite-twice}
 use Rattle.calls.specs.Signs.{flipped}
 use Rattle.message.specs.declared.MinSum.{MinSum}
 use Rattle.message.specs.MessageLaws.{add-size, add-flipped}
+use Rattle.polar.specs.Mask.{isInformation}
 use Rattle.settings.specs.declared.Settings.{Settings}
 use Rattle.settings.specs.declared.Lengths.{Lengths}
 use Rattle.settings.specs.Slices.{Slices, lengthsOf}
@@ -23,7 +24,7 @@ pub soft-size : (rule : MinSum) (kind : ℕ) (left right : ℤ) → natAbs (soft
 soft-size rule kind left right = add-size rule left right
 
 -- the sign of both directions comes out of it; at a frozen position no sign is turned
-pub soft-flipped : (rule : MinSum) (kind : ℕ) (b : Bool) (left right : ℤ) → ((kind ≡ 0 → ⊥) → b ≡ false)
+pub soft-flipped : (rule : MinSum) (kind : ℕ) (b : Bool) (left right : ℤ) → (isInformation kind ≡ false → b ≡ false)
     → softOf rule kind (flipped b left) (flipped b right) ≡ flipped b (softOf rule kind left right)
 soft-flipped rule kind b left right frozen = add-flipped rule b left right
 

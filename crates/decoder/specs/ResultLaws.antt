@@ -8,7 +8,7 @@ use native.Mathlib.Omega.{arith}
 use lib.Dec.{lit≤}
 use lib.IntN.{ℤ, pos}
 use lib.ListN.{getD}
-use Rattle.calls.specs.MemoryLaws.{overwrite-at}
+use Rattle.calls.specs.LentMemoryLaws.{overwrite-at}
 use Rattle.calls.specs.Numbers.{check, firstRefusal}
 use Rattle.settings.specs.declared.Settings.{Settings}
 use Rattle.settings.specs.Settings.{largestLimit, settingsNumber}

@@ -73,7 +73,7 @@ pub record OneIteration (s : Settings) (memory : Memory) (mask : List ℕ) (befo
       ≡ memoryNext (s .m) (criterionOf s) mask memory (λ i. getD (before .mark) i 0) (softAt s mask (after .work))
       (codedMarkAt s (after .work))
   pub holds-is : r .holds
-      ≡ holdsNow (s .m) (criterionOf s) (r .memory) (softAt s mask (after .work)) (markAt s mask (after .work))
+      ≡ holdsNow (s .m) (criterionOf s) mask (r .memory) (softAt s mask (after .work)) (markAt s mask (after .work))
       (codedMarkAt s (after .work))
 
 -- a run that goes on: t iterations of w have given the workspace `now`, and the criterion held after none of them

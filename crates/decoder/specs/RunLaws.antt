@@ -10,14 +10,14 @@ use native.Mathlib.Nat.{eq-or-lt-of-le, le-of-suc-le-suc}
 use native.Mathlib.Omega.{arith}
 use lib.IntN.{ℤ}
 use lib.ListN.{getD}
-use Rattle.calls.specs.MemoryLaws.{overwrite-at}
+use Rattle.calls.specs.LentMemoryLaws.{overwrite-at}
 use Rattle.sweeps.specs.Iteration.{iteration, start}
 use Rattle.sweeps.specs.IterationLaws.{WorkspaceValid, valid-iterations, length-iterations}
 use Rattle.criteria.specs.declared.Memory.{Memory}
 use Rattle.criteria.specs.declared.Progress.{Progress}
 use Rattle.criteria.specs.Memory.{nothing}
 use Rattle.criteria.specs.MemoryLaws.{memory-begins, memory-in-range, memory-next, holds-next}
-use Rattle.criteria.specs.Private.{MemoryInRange}
+use Rattle.criteria.specs.Private.{mostRemembered, MemoryInRange}
 use Rattle.settings.specs.declared.Settings.{Settings}
 use Rattle.settings.specs.Slices.{Slices, lengthsOf}
 use Rattle.settings.specs.SlicesLaws.{OutputsFit}
@@ -53,7 +53,7 @@ module _ {s : Settings} {mask : List ℕ} {w : List ℤ} {t : ℕ} {memory : Mem
   pub run-valid : WorkspaceValid (ruleOf s) (s .m) w → WorkspaceValid (ruleOf s) (s .m) now
   run-valid valid = rw (h .work-is) (valid-iterations valid t)
 
-  pub run-memory : t < 1000 → MemoryInRange memory
+  pub run-memory : t < mostRemembered → MemoryInRange memory
   run-memory few =
       memory-in-range (s .m) (criterionOf s) mask (softAfter s mask w) (codedSoftAfter s mask w) t (h .memory-is) few
 
@@ -80,7 +80,7 @@ module _ {s : Settings} {mask : List ℕ} {w : List ℤ} {t : ℕ} {memory : Mem
       ∙ memory-next (s .m) (criterionOf s) mask (softAfter s mask w) (codedSoftAfter s mask w) t
       (λ i. getD (before .mark) i 0) marks-before
       (softAt s mask (after .work)) (λ i l. ap (λ (v : List ℤ). softAt s mask v i) step-work)
-      (codedMarkAt s (after .work)) (h .memory-is)
+      (codedMarkAt s (after .work)) (λ i l. ap (λ (v : List ℤ). codedMarkAt s v i) step-work) (h .memory-is)
 
   pub step-holds : r .holds ≡ holdsAfter s mask w (suc t)
   step-holds =

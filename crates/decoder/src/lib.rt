@@ -1,12 +1,12 @@
 // The decoder: LLRs become soft outputs, marks, an iteration and a reason.
-// It sees the promises of `settings`, `sweeps`, `criteria` and `message`. It promises that the answer, the four outputs
+// It sees the promises of `settings`, `sweeps`, `criteria`, `message` and `polar`. It promises that the answer, the four outputs
 // and the workspace equal document 01's definitions, that nothing else is written, and nothing at all after a refusal.
 ghost use mathlib.Core.Path.{_≡_};
 ghost use Prim.Native.Nat.{_<_, _≤_, _^_};
 ghost use lib.IntN.{natAbs};
 ghost use lib.ListN.{length};
 ghost use Rattle.calls.specs.Bounds.{largestCeiling, largestScale};
-ghost use Rattle.calls.specs.Memory.{overwrite};
+ghost use Rattle.calls.specs.LentMemory.{overwrite};
 ghost use Rattle.message.specs.MessageLaws.{RuleInRange};
 ghost use Rattle.sweeps.specs.Iteration.{iteration, iterations};
 ghost use Rattle.sweeps.specs.IterationLaws.{WorkspaceValid};

@@ -1,8 +1,8 @@
 -- Two runs of the decoder, the second with its LLRs flipped by the block sent: every message of the second run is that
 -- of the first, flipped by the bit that it stands for, after any number of iterations; and so are the soft outputs.
 use Prim.Native.Nat.{ℕ, zero, suc, _+_, _-_, _*_, _/_, _^_, _≤_, _<_, zero-le}
-use mathlib.Core.Path.{_≡_, refl, sym, _∙_, subst}
-use mathlib.Core.Bool.{Bool, false}
+use mathlib.Core.Path.{_≡_, refl, sym, ap, _∙_, subst}
+use mathlib.Core.Bool.{Bool, true, false}
 use mathlib.Core.List.{List}
 use native.Mathlib.Nat.{le-refl, add-div-right, div-eq-sub-div, le-div-iff-mul-le}
 use native.Mathlib.Decide.{ℕ-discrete, decLt}
@@ -10,12 +10,13 @@ use native.Mathlib.Omega.{arith}
 use lib.IntN.{ℤ, pos}
 use lib.ListN.{getD}
 use lib.Pow.{pow-pos}
-use Rattle.calls.specs.Memory.{overwrite}
-use Rattle.calls.specs.MemoryLaws.{length-overwrite, overwrite-at}
+use Rattle.calls.specs.LentMemory.{overwrite}
+use Rattle.calls.specs.LentMemoryLaws.{length-overwrite, overwrite-at}
 use Rattle.calls.specs.Signs.{flipped}
 use Rattle.calls.specs.SignLaws.{flipped-zero}
 use Rattle.calls.specs.Bits.{xor}
-use Rattle.polar.specs.Mask.{byKind}
+use Rattle.polar.specs.Mask.{isInformation}
+use Rattle.polar.specs.MaskLaws.{kind-information}
 use Rattle.polar.specs.Code.{coded}
 use Rattle.polar.specs.Columns.{digit, columnStep, column}
 use Rattle.calls.specs.BitLaws.{xor-comm, xor-cancel}
@@ -104,19 +105,20 @@ module _ (m : ℕ) (u : ℕ → Bool) (s : ℕ) (g g′ : ℕ → ℤ) (hs : s �
 -- what the two runs are handed: u is 0 at the frozen positions, and the second LLRs are the first, flipped by the block
 -- sent. The workspaces have room; what they held before may differ
 pub record Runs (m : ℕ) (mask : List ℕ) (u : ℕ → Bool) (llr llr′ old old′ : List ℤ) : Type 0 where
-  pub frozen : (i : ℕ) → i < 2 ^ m → (getD mask i 0 ≡ 0 → ⊥) → u i ≡ false
+  pub frozen : (i : ℕ) → i < 2 ^ m → isInformation (getD mask i 0) ≡ false → u i ≡ false
   pub sent : (i : ℕ) → i < 2 ^ m → getD llr′ i (pos 0) ≡ flipped (coded m u i) (getD llr i (pos 0))
   pub room : WorkspaceFits m old
   pub room′ : WorkspaceFits m old′
 
-prior-flips : (C : ℕ) (mask : List ℕ) (i : ℕ) (b : Bool) → ((getD mask i 0 ≡ 0 → ⊥) → b ≡ false)
+prior-flips : (C : ℕ) (mask : List ℕ) (i : ℕ) (b : Bool) → (isInformation (getD mask i 0) ≡ false → b ≡ false)
     → prior C mask i ≡ flipped b (prior C mask i)
-prior-flips C mask i b frozen = by-kind (getD mask i 0) refl
+prior-flips C mask i b frozen = by-kind (isInformation (getD mask i 0)) refl
   where
-    by-kind : (n : ℕ) → getD mask i 0 ≡ n
-        → byKind n (pos 0) (λ bit. flipped bit (pos C)) ≡ flipped b (byKind n (pos 0) (λ bit. flipped bit (pos C)))
-    by-kind zero e = sym (flipped-zero b)
-    by-kind (suc n) e = rw (frozen (λ z. omega arith))
+    by-kind : (k : Bool) → isInformation (getD mask i 0) ≡ k → prior C mask i ≡ flipped b (prior C mask i)
+    by-kind true e =
+        let none = kind-information (pos 0) (λ bit. flipped bit (pos C)) (getD mask i 0) e in
+        none ∙ sym (flipped-zero b) ∙ ap (flipped b) (sym none)
+    by-kind false e = rw (frozen e)
 
 abbrev cleared : ℕ → List ℤ → List ℤ
 cleared m old = overwrite (workspaceLength m) (λ j. pos 0) old

@@ -30,45 +30,45 @@ use Rattle.independence.specs.Runs.{
 }
 
 -- the slices that a run writes, with what they held before: the front's LLRs, and the decoder's five
-pub record Lent : Type 0 where
+pub record RunSlices : Type 0 where
   pub llr : List ℤ
   pub slices : Slices
 
 -- of the same lengths, whatever they held
-pub record SameLengths (a b : Lent) : Type 0 where
+pub record SameLengths (a b : RunSlices) : Type 0 where
   pub llr : length (a .llr) ≡ length (b .llr)
   pub slices : lengthsOf (a .slices) ≡ lengthsOf (b .slices)
 
 -- one run: the front on the samples, and the decoder on the LLRs that the front has just written
 module _ {Samples : Type 0} (front : Front Samples) (s : Settings) (mask : List ℕ) (samples : Samples)
-    (lent : Lent) where
-  abbrev pub frontOf : ℕ
-  frontOf = front .number samples (length (lent .llr))
+    (lent : RunSlices) where
+  abbrev pub frontIn : ℕ
+  frontIn = front .number samples (length (lent .llr))
 
-  abbrev pub llrsOf : List ℤ
-  llrsOf = front .llrs samples (lent .llr)
+  abbrev pub llrsIn : List ℤ
+  llrsIn = front .llrs samples (lent .llr)
 
-  abbrev pub decoderOf : ℕ
-  decoderOf = callNumber s mask llrsOf (lent .slices)
+  abbrev pub decoderIn : ℕ
+  decoderIn = callNumber s mask llrsIn (lent .slices)
 
-  abbrev pub answerOf : Result
-  answerOf = decodeResult s mask llrsOf (lent .slices)
+  abbrev pub answerIn : Result
+  answerIn = decodeResult s mask llrsIn (lent .slices)
 
-  abbrev pub softOf : ℕ → ℤ
-  softOf i = getD (decodeSlices s mask llrsOf (lent .slices) .soft) i (pos 0)
+  abbrev pub softIn : ℕ → ℤ
+  softIn i = getD (decodeSlices s mask llrsIn (lent .slices) .soft) i (pos 0)
 
-  abbrev pub marksOf : ℕ → ℕ
-  marksOf i = getD (decodeSlices s mask llrsOf (lent .slices) .mark) i 0
+  abbrev pub marksIn : ℕ → ℕ
+  marksIn i = getD (decodeSlices s mask llrsIn (lent .slices) .mark) i 0
 
-  abbrev pub codedSoftOf : ℕ → ℤ
-  codedSoftOf i = getD (decodeSlices s mask llrsOf (lent .slices) .codedSoft) i (pos 0)
+  abbrev pub codedSoftIn : ℕ → ℤ
+  codedSoftIn i = getD (decodeSlices s mask llrsIn (lent .slices) .codedSoft) i (pos 0)
 
-  abbrev pub codedMarksOf : ℕ → ℕ
-  codedMarksOf i = getD (decodeSlices s mask llrsOf (lent .slices) .codedMark) i 0
+  abbrev pub codedMarksIn : ℕ → ℕ
+  codedMarksIn i = getD (decodeSlices s mask llrsIn (lent .slices) .codedMark) i 0
 
 -- the second run beside the first
 module _ {Samples : Type 0} (front : Front Samples) (s : Settings) (mask message block : List ℕ) (samples : Samples)
-    (first second : Lent) where
+    (first second : RunSlices) where
   -- u and its coded bits, for which marks and coded marks stand; and the block sent, in whatever slice
   abbrev u : ℕ → Bool
   u = uBit mask message
@@ -85,34 +85,34 @@ module _ {Samples : Type 0} (front : Front Samples) (s : Settings) (mask message
 
   -- neither front nor decoder refuses the first run
   abbrev Accepted : Type 0
-  Accepted = (frontOf front s mask samples first ≡ 0) × (decoderOf front s mask samples first ≡ 0)
+  Accepted = (frontIn front s mask samples first ≡ 0) × (decoderIn front s mask samples first ≡ 0)
 
   pub record Alike : Type 0 where
     -- where the front refuses one run, it refuses the other with the same number
-    pub fronts : frontOf front s mask other second ≡ frontOf front s mask samples first
+    pub fronts : frontIn front s mask other second ≡ frontIn front s mask samples first
     -- where the front accepts, the decoder gives both the same number, or ends both at the
     -- same iteration for the same reason
-    pub answers : frontOf front s mask samples first ≡ 0
-        → answerOf front s mask other second ≡ answerOf front s mask samples first
+    pub answers : frontIn front s mask samples first ≡ 0
+        → answerIn front s mask other second ≡ answerIn front s mask samples first
     -- where both accept: each soft output of the second run is minus that of the first where
     -- its bit is 1, and equal elsewhere
     pub soft : Accepted → (i : ℕ) → i < 2 ^ s .m
-        → softOf front s mask other second i ≡ flipped (u i) (softOf front s mask samples first i)
+        → softIn front s mask other second i ≡ flipped (u i) (softIn front s mask samples first i)
     pub codedSoft : Accepted → (i : ℕ) → i < 2 ^ s .m
-        → codedSoftOf front s mask other second i ≡ flipped (codedBit i) (codedSoftOf front s mask samples first i)
+        → codedSoftIn front s mask other second i ≡ flipped (codedBit i) (codedSoftIn front s mask samples first i)
     -- ties stand at the same places, and every other mark is the opposite one exactly where its bit is 1
     pub marks : Accepted → (i : ℕ) → i < 2 ^ s .m
-        → marksOf front s mask other second i ≡ flippedMark (u i) (marksOf front s mask samples first i)
+        → marksIn front s mask other second i ≡ flippedMark (u i) (marksIn front s mask samples first i)
     pub codedMarks : Accepted → (i : ℕ) → i < 2 ^ s .m
-        → codedMarksOf front s mask other second i
-        ≡ flippedMark (codedBit i) (codedMarksOf front s mask samples first i)
+        → codedMarksIn front s mask other second i
+        ≡ flippedMark (codedBit i) (codedMarksIn front s mask samples first i)
     -- so a position is right, wrong or tied in the second run, judged by u and its coded bits, as it
     -- is in the first, judged by zeros
     pub verdicts : Accepted → (i : ℕ) → i < 2 ^ s .m
-        → verdict (u i) (marksOf front s mask other second i) ≡ verdict false (marksOf front s mask samples first i)
+        → verdict (u i) (marksIn front s mask other second i) ≡ verdict false (marksIn front s mask samples first i)
     pub codedVerdicts : Accepted → (i : ℕ) → i < 2 ^ s .m
-        → verdict (codedBit i) (codedMarksOf front s mask other second i)
-        ≡ verdict false (codedMarksOf front s mask samples first i)
+        → verdict (codedBit i) (codedMarksIn front s mask other second i)
+        ≡ verdict false (codedMarksIn front s mask samples first i)
 
   -- for every m, mask and message that the coder accepts; every setting, accepted or not; any samples; and any lent
   -- slices, of the same lengths in both runs
@@ -120,8 +120,8 @@ module _ {Samples : Type 0} (front : Front Samples) (s : Settings) (mask message
       → encodeNumber (record { m = s .m }) mask message (length block) ≡ 0
       → SameLengths first second → Alike
   front-independence odd accepted same =
-      let calls : frontOf front s mask samples first ≡ 0
-      → Calls s mask u sent (llrsOf front s mask samples first) (llrsOf front s mask other second) (first .slices)
+      let calls : frontIn front s mask samples first ≡ 0
+      → Calls s mask u sent (llrsIn front s mask samples first) (llrsIn front s mask other second) (first .slices)
       (second .slices)
       = λ ok. record {
         frozen = frozen-zero mask message;
@@ -144,7 +144,7 @@ module _ {Samples : Type 0} (front : Front Samples) (s : Settings) (mask message
 
 -- document 01's front: a Gaussian, flipping or erasing channel, accepted or not
 pub message-independence : (s : Settings) (channel : Channel) (mask message block : List ℕ) (samples : List Float)
-    (first second : Lent)
+    (first second : RunSlices)
     → encodeNumber (record { m = s .m }) mask message (length block) ≡ 0 → SameLengths first second
     → Alike (channelFront s channel) s mask message block samples first second
 message-independence s channel mask message block samples first second =

@@ -14,13 +14,14 @@ use Rattle.calls.specs.Bits.{byteOf, bitOf}
 use Rattle.calls.specs.BitLaws.{bit-of-byte}
 use Rattle.calls.specs.Bounds.{largestM, largestCeiling}
 use Rattle.calls.specs.Numbers.{between}
-use Rattle.calls.specs.MemoryLaws.{length-after, new-at}
+use Rattle.calls.specs.LentMemoryLaws.{length-after, new-at}
 use Rattle.calls.specs.NumberLaws.{check-passed, and-passed}
 use Rattle.calls.specs.Signs.{flipped}
 use Rattle.polar.specs.declared.Code.{Code}
 use Rattle.polar.specs.Code.{uBit, informationCount, coded, encodeNumber, encodeBlock}
 use Rattle.polar.specs.CodeLaws.{encode-accepted}
-use Rattle.polar.specs.Mask.{byKind}
+use Rattle.polar.specs.Mask.{isInformation}
+use Rattle.polar.specs.MaskLaws.{kind-frozen, frozen-bit-zero}
 use Rattle.channel.specs.declared.Channel.{Channel}
 use Rattle.channel.specs.Front.{llrOf, frontNumber}
 use Rattle.channel.specs.FlippedSamples.{flippedSamples}
@@ -39,13 +40,10 @@ use Rattle.independence.specs.Outcome.{mark-flipped, ending-same, final-
 
 -- ---- the coder: u is 0 where the mask is not, and the block sent holds the coded bits
 
-pub frozen-zero : (mask message : List ℕ) (i : ℕ) → (getD mask i 0 ≡ 0 → ⊥) → uBit mask message i ≡ false
-frozen-zero mask message i frozen = by-kind (getD mask i 0) refl
-  where
-    by-kind : (n : ℕ) → getD mask i 0 ≡ n
-        → byKind n (bitOf (getD message (informationCount mask i) 0)) (λ bit. bit) ≡ false
-    by-kind zero e = absurd (frozen e)
-    by-kind (suc n) e = refl
+pub frozen-zero : (mask message : List ℕ) (i : ℕ) → isInformation (getD mask i 0) ≡ false → uBit mask message i ≡ false
+frozen-zero mask message i frozen =
+    kind-frozen (bitOf (getD message (informationCount mask i) 0)) (λ bit. bit) (getD mask i 0) frozen
+    ∙ frozen-bit-zero (getD mask i 0)
 
 pub sent-coded : (code : Code) (mask message block : List ℕ) → encodeNumber code mask message (length block) ≡ 0
     → (i : ℕ) → i < 2 ^ code .m
@@ -95,7 +93,7 @@ channel-odd s channel =
 -- where u is 0 wherever the mask is not, and the block sent is u coded
 pub record Calls (s : Settings) (mask : List ℕ) (u sent : ℕ → Bool) (llr llr′ : List ℤ)
     (lent lent′ : Slices) : Type 0 where
-  pub frozen : (i : ℕ) → (getD mask i 0 ≡ 0 → ⊥) → u i ≡ false
+  pub frozen : (i : ℕ) → isInformation (getD mask i 0) ≡ false → u i ≡ false
   pub block : (i : ℕ) → i < 2 ^ s .m → sent i ≡ coded (s .m) u i
   pub flips : (i : ℕ) → i < 2 ^ s .m → getD llr′ i (pos 0) ≡ flipped (sent i) (getD llr i (pos 0))
   pub long : length llr′ ≡ length llr

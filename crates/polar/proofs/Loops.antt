@@ -13,8 +13,8 @@ use lib.Seq.{getD-at}
 use borrow.Author.Tests.{le-leb, lt-leb, leb-true, leb-false}
 use Rattle.calls.specs.Every.{every}
 use Rattle.calls.specs.EveryLaws.{every-next}
-use Rattle.calls.specs.Memory.{overwrite}
-use Rattle.calls.specs.MemoryLaws.{length-overwrite, overwrite-store}
+use Rattle.calls.specs.LentMemory.{overwrite}
+use Rattle.calls.specs.LentMemoryLaws.{length-overwrite, overwrite-store}
 use Rattle.calls.specs.Bits.{byteOf, bitOf}
 use Rattle.polar.specs.Mask.{Kind, information, frozen, kindOf, onKind, byKind, isInformation, frozenBit}
 use Rattle.polar.specs.MaskLaws.{kind-information, kind-frozen}

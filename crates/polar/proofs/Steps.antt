@@ -7,8 +7,8 @@ use native.Mathlib.Numerals.{add-one}
 use native.Mathlib.Omega.{arith}
 use lib.Bits.{bitXor}
 use lib.ListN.{length, getD, set}
-use Rattle.calls.specs.Memory.{overwrite, overwriteFrom}
-use Rattle.calls.specs.MemoryLaws.{
+use Rattle.calls.specs.LentMemory.{overwrite, overwriteFrom}
+use Rattle.calls.specs.LentMemoryLaws.{
   length-overwrite,
   length-overwriteFrom,
   overwrite-behind,

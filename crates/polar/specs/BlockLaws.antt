@@ -5,8 +5,8 @@ use mathlib.Core.Bool.{Bool}
 use mathlib.Core.List.{List}
 use native.Mathlib.Omega.{arith}
 use lib.ListN.{length, getD}
-use Rattle.calls.specs.Memory.{overwrite}
-use Rattle.calls.specs.MemoryLaws.{length-overwrite, overwrite-at, overwrite-same, overwrite-own}
+use Rattle.calls.specs.LentMemory.{overwrite}
+use Rattle.calls.specs.LentMemoryLaws.{length-overwrite, overwrite-at, overwrite-same, overwrite-own}
 use Rattle.calls.specs.Bits.{byteOf, bitOf}
 use Rattle.calls.specs.BitLaws.{byte-of-bit, bit-of-byte, byte-le}
 

@@ -9,7 +9,7 @@ use Rattle.calls.specs.Bounds.{largestM}
 use Rattle.calls.specs.Bits.{xor, byteOf, bitOf}
 use Rattle.calls.specs.Numbers.{check, firstRefusal, between}
 use Rattle.calls.specs.Every.{every}
-use Rattle.calls.specs.Memory.{overwrite, unlessRefused}
+use Rattle.calls.specs.LentMemory.{overwrite, unlessRefused}
 use Rattle.polar.specs.declared.Code.{Code}
 use Rattle.polar.specs.Mask.{byKind, maskAccepted}
 

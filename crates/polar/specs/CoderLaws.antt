@@ -13,8 +13,8 @@ use lib.Seq.{take-suc, getD-take}
 use borrow.Author.Tests.{le-leb}
 use Rattle.calls.specs.Bounds.{largestM}
 use Rattle.calls.specs.EveryLaws.{every-of}
-use Rattle.calls.specs.Memory.{overwrite}
-use Rattle.calls.specs.MemoryLaws.{overwrite-same}
+use Rattle.calls.specs.LentMemory.{overwrite}
+use Rattle.calls.specs.LentMemoryLaws.{overwrite-same}
 use Rattle.polar.specs.declared.Code.{Code}
 use Rattle.calls.specs.Bits.{xor, byteOf}
 use Rattle.polar.specs.Mask.{byKind}

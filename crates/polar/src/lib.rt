@@ -8,7 +8,7 @@ ghost use lib.ListN.{length, getD};
 ghost use Rattle.calls.specs.Every.{every};
 ghost use Rattle.calls.specs.Bounds.{largestM};
 ghost use Rattle.calls.specs.Numbers.{numberOf};
-ghost use Rattle.calls.specs.Memory.{overwrite, overwriteFrom};
+ghost use Rattle.calls.specs.LentMemory.{overwrite, overwriteFrom};
 ghost use Rattle.calls.specs.Bits.{byteOf};
 ghost use Rattle.polar.specs.Mask.{isMaskByte, isInformation, frozenBit, maskAccepted};
 ghost use Rattle.polar.specs.Code.{

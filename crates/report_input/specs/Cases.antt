@@ -9,8 +9,8 @@ use Rattle.calls.specs.Texts.{bytes}
 use Rattle.report_input.specs.Input.{
   head,
   blockOf,
-  positionLine,
-  positionLines,
+  readPosition,
+  readPositions,
   settingNames,
   positionNames,
   Meaning,
@@ -40,7 +40,7 @@ pub accepted : map meaning (
     ∷ of (bytes "01  31 000016 10   1 -0\n") (bytes "-0 1 000005\n1   0   -03\n")
     ∷ []
     ) ≡ worked ∷ worked ∷ []
-unfolding digits natural number spaces separator line literal head positionLine positionLines meaning
+unfolding digits natural number spaces separator line literal head readPosition readPositions meaning
 accepted = refl
 
 -- the refusals by the line of the settings: each value -1, then one that would lie in its range if it wrapped at 8 or
@@ -60,7 +60,7 @@ pub settings-numbers : map (λ settings. numberIn (meaning (of settings pair))) 
     ∷ bytes "1 31 16 10 1 65536\n"
     ∷ []
     ) ≡ 1 ∷ 2 ∷ 3 ∷ 4 ∷ 5 ∷ 6 ∷ 1 ∷ 2 ∷ 3 ∷ 4 ∷ 5 ∷ 6 ∷ []
-unfolding digits natural number spaces separator line literal head positionLine positionLines meaning
+unfolding digits natural number spaces separator line literal head readPosition readPositions meaning
 settings-numbers = refl
 
 -- the refusals by the lines of the positions. 256 is no 0, 65,539 is no 3
@@ -74,7 +74,7 @@ pub position-numbers : map (λ positions. numberIn (meaning (of usual positions)
     ∷ bytes "0 1 5\n1 0 -65536\n"
     ∷ []
     ) ≡ 8 ∷ 8 ∷ 8 ∷ 9 ∷ 10 ∷ 10 ∷ 10 ∷ []
-unfolding digits natural number spaces separator line literal head positionLine positionLines meaning
+unfolding digits natural number spaces separator line literal head readPosition readPositions meaning
 position-numbers = refl
 
 -- the order: 14 in the first three lines, then 1, then 14 in the rest, then the others
@@ -85,7 +85,7 @@ pub order : map (λ text. numberIn (meaning text)) (
     ∷ of (bytes "1 0 16 10 1 0\n") (bytes "0 1 32\n1 1 -3\n")
     ∷ []
     ) ≡ 14 ∷ 1 ∷ 14 ∷ 2 ∷ []
-unfolding digits natural number spaces separator line literal head positionLine positionLines meaning
+unfolding digits natural number spaces separator line literal head readPosition readPositions meaning
 order = refl
 
 -- no number of positions but N, in order, and nothing behind
@@ -100,5 +100,5 @@ pub malformed : map (λ positions. numberIn (meaning (of usual positions))) (
     ∷ bytes "0 1\n1 0\n"
     ∷ []
     ) ≡ 14 ∷ 14 ∷ 14 ∷ 14 ∷ 14 ∷ 14 ∷ 14 ∷ 14 ∷ []
-unfolding digits natural number spaces separator line literal head positionLine positionLines meaning
+unfolding digits natural number spaces separator line literal head readPosition readPositions meaning
 malformed = refl

@@ -78,8 +78,8 @@ pub record PositionInput : Type 0 where
   pub llr : ℤ
 
 -- the line of position p
-unfoldable pub positionLine : ℕ → List ℕ → Reading PositionInput
-positionLine p s =
+unfoldable pub readPosition : ℕ → List ℕ → Reading PositionInput
+readPosition p s =
     bind (line 3 s) (λ zs s.
     cond (eqb (unsigned (valueAt zs 0)) p)
     (found (record { frozen = maskValue (valueAt zs 1); llr = llrValue (valueAt zs 2) }) s)
@@ -96,11 +96,11 @@ abbrev pub above : PositionInput → Block → Block
 above r b = blockOf (r .frozen ∷ b .mask) (r .llr ∷ b .llr)
 
 -- the lines of n positions from p on
-unfoldable pub positionLines : ℕ → ℕ → List ℕ → Reading Block
-positionLines zero p s = found (blockOf [] []) s
-positionLines (suc n) p s =
-    bind (positionLine p s) (λ r s.
-    bind (positionLines n (suc p) s) (λ b s. found (above r b) s))
+unfoldable pub readPositions : ℕ → ℕ → List ℕ → Reading Block
+readPositions zero p s = found (blockOf [] []) s
+readPositions (suc n) p s =
+    bind (readPosition p s) (λ r s.
+    bind (readPositions n (suc p) s) (λ b s. found (above r b) s))
 
 -- ---- the meaning: settings, mask and LLRs, or the number of a refusal
 
@@ -135,7 +135,7 @@ tested s malformed = refused 14
 
 -- the first three lines are tested for 14, then m for 1
 abbrev pub sized : Reading Settings → Meaning
-sized (found s behind) = cond (between 1 largestM (s .m)) (tested s (positionLines (2 ^ s .m) 0 behind)) (refused 1)
+sized (found s behind) = cond (between 1 largestM (s .m)) (tested s (readPositions (2 ^ s .m) 0 behind)) (refused 1)
 sized malformed = refused 14
 
 -- a text that is too long is 14 before anything else
@@ -162,11 +162,11 @@ module _ {A : Type 0} where
   writtenOver values old = values ++ drop (length values) old
 
 -- the lent slices: after a refusal as they were
-abbrev pub slicesAfter : Meaning → Block → Block
-slicesAfter (refused number) old = old
-slicesAfter (block s b) old = blockOf (writtenOver (b .mask) (old .mask)) (writtenOver (b .llr) (old .llr))
+abbrev pub blockAfter : Meaning → Block → Block
+blockAfter (refused number) old = old
+blockAfter (block s b) old = blockOf (writtenOver (b .mask) (old .mask)) (writtenOver (b .llr) (old .llr))
 
 -- `before` and `after` are the contents of the lent slices
 pub record InputRead (means : Meaning) (before after : Block) (r : Input) : Type 0 where
   pub answer : answerOf r ≡ readAnswer means
-  pub after-is : after ≡ slicesAfter means before
+  pub after-is : after ≡ blockAfter means before

@@ -29,8 +29,8 @@ use Rattle.report_input.specs.Input.{
   Block,
   blockOf,
   above,
-  positionLine,
-  positionLines,
+  readPosition,
+  readPositions,
   head,
   Meaning,
   refused,
@@ -52,17 +52,17 @@ use Rattle.report_input.specs.declared.Input.the-variants.{Accepted, Ref
 
 -- ---- one line
 
-pub position-line-found : (p : ℕ) (zs : List ℤ) (s t : List ℕ) → line 3 s ≡ found (take 3 zs) t
-    → positionLine p s
+pub read-position-found : (p : ℕ) (zs : List ℤ) (s t : List ℕ) → line 3 s ≡ found (take 3 zs) t
+    → readPosition p s
     ≡ cond (eqb (unsigned (valueAt zs 0)) p)
     (found (record { frozen = maskValue (valueAt zs 1); llr = llrValue (valueAt zs 2) }) t) malformed
-unfolding positionLine
-position-line-found p zs s t e =
+unfolding readPosition
+read-position-found p zs s t e =
     rw (e, getD-take 3 zs 0 (pos 0) (lit< tt), getD-take 3 zs 1 (pos 0) (lit< tt), getD-take 3 zs 2 (pos 0) (lit< tt))
 
-pub position-line-malformed : (p : ℕ) (s : List ℕ) → line 3 s ≡ malformed → positionLine p s ≡ malformed
-unfolding positionLine
-position-line-malformed p s e = rw e
+pub read-position-malformed : (p : ℕ) (s : List ℕ) → line 3 s ≡ malformed → readPosition p s ≡ malformed
+unfolding readPosition
+read-position-malformed p s e = rw e
 
 pub head-found : (t second third behind : List ℕ) (zs : List ℤ) → literal settingNames t ≡ found tt second
     → line 6 second ≡ found (take 6 zs) third
@@ -117,28 +117,28 @@ prefixed-position mask llr r (found b s) =
     rw (append-assoc mask (r .frozen ∷ []) (b .mask), append-assoc llr (r .llr ∷ []) (b .llr))
 
 -- where i of n lines are read: one more
-pub position-lines-next : (n i : ℕ) (mask : List ℕ) (llr : List ℤ) (s t : List ℕ) (r : PositionInput) → i < n
-    → n ≤ length mask → n ≤ length llr → positionLine i s ≡ found r t
-    → prefixed (take i mask) (take i llr) (positionLines (n - i) i s)
+pub read-positions-next : (n i : ℕ) (mask : List ℕ) (llr : List ℤ) (s t : List ℕ) (r : PositionInput) → i < n
+    → n ≤ length mask → n ≤ length llr → readPosition i s ≡ found r t
+    → prefixed (take i mask) (take i llr) (readPositions (n - i) i s)
     ≡ prefixed (take (i + 1) (set mask i (r .frozen))) (take (i + 1) (set llr i (r .llr)))
-    (positionLines (n - (i + 1)) (i + 1) t)
-unfolding positionLines
-position-lines-next n i mask llr s t r h mask-long llr-long e =
+    (readPositions (n - (i + 1)) (i + 1) t)
+unfolding readPositions
+read-positions-next n i mask llr s t r h mask-long llr-long e =
     let left : n - i ≡ suc (n - suc i) = omega arith in
     rw (left, e, add-one i, take-suc-set mask i (r .frozen) (omega arith), take-suc-set llr i (r .llr) (omega arith))
-    (prefixed-position (take i mask) (take i llr) r (positionLines (n - suc i) (suc i) t))
+    (prefixed-position (take i mask) (take i llr) r (readPositions (n - suc i) (suc i) t))
 
 -- no line of the next position
-pub position-lines-stop : (n i : ℕ) (mask : List ℕ) (llr : List ℤ) (s : List ℕ) → i < n → positionLine i s ≡ malformed
-    → prefixed mask llr (positionLines (n - i) i s) ≡ malformed
-unfolding positionLines
-position-lines-stop n i mask llr s h e = let left : n - i ≡ suc (n - suc i) = omega arith in rw (left, e)
+pub read-positions-stop : (n i : ℕ) (mask : List ℕ) (llr : List ℤ) (s : List ℕ) → i < n → readPosition i s ≡ malformed
+    → prefixed mask llr (readPositions (n - i) i s) ≡ malformed
+unfolding readPositions
+read-positions-stop n i mask llr s h e = let left : n - i ≡ suc (n - suc i) = omega arith in rw (left, e)
 
 -- no line left
-pub position-lines-end : (n : ℕ) (mask : List ℕ) (llr : List ℤ) (s : List ℕ)
-    → prefixed mask llr (positionLines (n - n) n s) ≡ found (blockOf mask llr) s
-unfolding positionLines
-position-lines-end n mask llr s = let left : n - n ≡ 0 = omega arith in rw (left, append-nil mask, append-nil llr)
+pub read-positions-end : (n : ℕ) (mask : List ℕ) (llr : List ℤ) (s : List ℕ)
+    → prefixed mask llr (readPositions (n - n) n s) ≡ found (blockOf mask llr) s
+unfolding readPositions
+read-positions-end n mask llr s = let left : n - n ≡ 0 = omega arith in rw (left, append-nil mask, append-nil llr)
 
 -- ---- n lines give n mask values and n LLRs
 
@@ -151,20 +151,20 @@ pub record Long (n : ℕ) (b : Block) : Type 0 where
   pub mask-long : length (b .mask) ≡ n
   pub llr-long : length (b .llr) ≡ n
 
-pub position-lines-long : (n p : ℕ) (s : List ℕ) → Each (Long n) (positionLines n p s)
-unfolding positionLines
-position-lines-long zero p s = record { mask-long = refl; llr-long = refl }
-position-lines-long (suc n) p s = first (positionLine p s) (λ s. position-lines-long n (suc p) s)
+pub read-positions-long : (n p : ℕ) (s : List ℕ) → Each (Long n) (readPositions n p s)
+unfolding readPositions
+read-positions-long zero p s = record { mask-long = refl; llr-long = refl }
+read-positions-long (suc n) p s = first (readPosition p s) (λ s. read-positions-long n (suc p) s)
   where
     more : (r : PositionInput) (R : Reading Block) → Each (Long n) R
         → Each (Long (suc n)) (bind R (λ b s. found (above r b) s))
     more r malformed h = tt
     more r (found b s) h = record { mask-long = ap suc (h .mask-long); llr-long = ap suc (h .llr-long) }
 
-    first : (R : Reading PositionInput) → ((s : List ℕ) → Each (Long n) (positionLines n (suc p) s))
-        → Each (Long (suc n)) (bind R (λ r s. bind (positionLines n (suc p) s) (λ b s. found (above r b) s)))
+    first : (R : Reading PositionInput) → ((s : List ℕ) → Each (Long n) (readPositions n (suc p) s))
+        → Each (Long (suc n)) (bind R (λ r s. bind (readPositions n (suc p) s) (λ b s. found (above r b) s)))
     first malformed h = tt
-    first (found r s) h = more r (positionLines n (suc p) s) (h s)
+    first (found r s) h = more r (readPositions n (suc p) s) (h s)
 
 -- ---- a block that is accepted
 
@@ -189,8 +189,8 @@ sized-fit : (R : Reading Settings) → Means (sized R)
 sized-fit malformed = tt
 sized-fit (found s t) = either (between 1 largestM (s .m))
   where
-    either : (ok : Bool) → Means (cond ok (tested s (positionLines (2 ^ s .m) 0 t)) (refused 1))
-    either true = tested-fit s (positionLines (2 ^ s .m) 0 t) (position-lines-long (2 ^ s .m) 0 t)
+    either : (ok : Bool) → Means (cond ok (tested s (readPositions (2 ^ s .m) 0 t)) (refused 1))
+    either true = tested-fit s (readPositions (2 ^ s .m) 0 t) (read-positions-long (2 ^ s .m) 0 t)
     either false = tt
 
 -- the meaning of a text is a refusal, or a block that the decoder accepts
@@ -269,7 +269,7 @@ pub sized-refused : (s : Settings) (t : List ℕ) → between 1 largestM (s .m) 
 sized-refused s t e = rw e
 
 pub sized-tested : (s : Settings) (t : List ℕ) → between 1 largestM (s .m) ≡ true
-    → sized (found s t) ≡ tested s (positionLines (2 ^ s .m) 0 t)
+    → sized (found s t) ≡ tested s (readPositions (2 ^ s .m) 0 t)
 sized-tested s t e = rw e
 
 -- n elements of a slice were replaced
@@ -279,14 +279,14 @@ replaced n old new values long first behind =
     sym (take-append-drop n new) ∙ ap₂ _++_ first behind ∙ ap (λ (k : ℕ). values ++ drop k old) (sym long)
 
 pub read-accepted : (s : Settings) (t u : List ℕ) (n : ℕ) (r : Next) {old new : Block}
-    → 0 ≡ numberIn (tested s (positionLines (2 ^ s .m) 0 u)) → n ≡ 2 ^ s .m
-    → positionLines n 0 u ≡ readTo t (firstOf n new) r
+    → 0 ≡ numberIn (tested s (readPositions (2 ^ s .m) 0 u)) → n ≡ 2 ^ s .m
+    → readPositions n 0 u ≡ readTo t (firstOf n new) r
     → drop n (new .mask) ≡ drop n (old .mask) → drop n (new .llr) ≡ drop n (old .llr)
-    → InputRead (tested s (positionLines (2 ^ s .m) 0 u)) old new (Accepted s)
+    → InputRead (tested s (readPositions (2 ^ s .m) 0 u)) old new (Accepted s)
 read-accepted s t u n r {old} {new} none size seen mask-behind llr-behind =
-    let whole = accepted-block s (positionLines (2 ^ s .m) 0 u) none in
-    let same : positionLines n 0 u ≡ positionLines (2 ^ s .m) 0 u = ap (λ (k : ℕ). positionLines k 0 u) size in
-    let long = subst (Each (Long n)) (same ∙ whole .read) (position-lines-long n 0 u) in
+    let whole = accepted-block s (readPositions (2 ^ s .m) 0 u) none in
+    let same : readPositions n 0 u ≡ readPositions (2 ^ s .m) 0 u = ap (λ (k : ℕ). readPositions k 0 u) size in
+    let long = subst (Each (Long n)) (same ∙ whole .read) (read-positions-long n 0 u) in
     let b : firstOf n new ≡ whole .b = read-found t (firstOf n new) (whole .b) [] r (sym seen ∙ same ∙ whole .read) in
     let mask-is = replaced n (old .mask) (new .mask) (whole .b .mask) (long .mask-long) (ap (λ (x : Block). x .mask) b)
     mask-behind in

@@ -9,7 +9,7 @@ ghost use Rattle.calls.specs.Numbers.{numberOf, between};
 ghost use Rattle.scan.specs.Answers.{readTo};
 ghost use Rattle.scan.specs.Reading.{found};
 ghost use Rattle.report_input.specs.Input.{valueAt, unsigned, maskValue, llrValue, settingsOf, head, blockOf};
-ghost use Rattle.report_input.specs.Input.{positionLine, positionLines, tested, sized, meaning, InputRead};
+ghost use Rattle.report_input.specs.Input.{readPosition, readPositions, tested, sized, meaning, InputRead};
 ghost use Rattle.report_input.specs.Private.{headRead, positionRead, firstOf, numberIn};
 use calls::Answer;
 use calls::LARGEST_M;
@@ -122,8 +122,8 @@ fn read_head(text: &[u8]) -> Head
 }
 
 // The line of a position.
-fn position_line(text: &[u8], at: usize, position: usize) -> Position
-    ensures { λ r. ⌜ positionLine position (drop at (now (text .entry))) ≡ positionRead (now (text .entry)) r ⌝ }
+fn read_position(text: &[u8], at: usize, position: usize) -> Position
+    ensures { λ r. ⌜ readPosition position (drop at (now (text .entry))) ≡ positionRead (now (text .entry)) r ⌝ }
 {
     let mut values = [0i32; 3];
     let line = scan::line(text, at, 3, &mut values);
@@ -142,9 +142,9 @@ fn position_line(text: &[u8], at: usize, position: usize) -> Position
 }
 
 // The lines of n positions.
-fn position_lines(text: &[u8], at: usize, n: usize, mask: &mut [u8], llr: &mut [i16]) -> Next
+fn read_positions(text: &[u8], at: usize, n: usize, mask: &mut [u8], llr: &mut [i16]) -> Next
     requires { ⌜ (n ≤ length (now mask)) × (n ≤ length (now llr)) ⌝ }
-    ensures { λ r. ⌜ positionLines n 0 (drop at (now (text .entry)))
+    ensures { λ r. ⌜ readPositions n 0 (drop at (now (text .entry)))
         ≡ readTo (now (text .entry)) (firstOf n (blockOf (now (mask .exit)) (now (llr .exit)))) r ⌝ }
     ensures { λ _. ⌜ drop n (now (mask .exit)) ≡ drop n (now (mask .entry)) ⌝ }
     ensures { λ _. ⌜ drop n (now (llr .exit)) ≡ drop n (now (llr .entry)) ⌝ }
@@ -152,7 +152,7 @@ fn position_lines(text: &[u8], at: usize, n: usize, mask: &mut [u8], llr: &mut [
     let mut i = 0;
     let mut next = at;
     while i < n {
-        let position = position_line(text, next, i);
+        let position = read_position(text, next, i);
         let Position::Found {
             frozen: frozen,
             llr: value,
@@ -174,13 +174,13 @@ fn position_lines(text: &[u8], at: usize, n: usize, mask: &mut [u8], llr: &mut [
 fn refusal(text: &[u8], at: usize, settings: Settings) -> Answer
     requires { ⌜ (1 ≤ settings .m) × (settings .m ≤ largestM) ⌝ }
     ensures { λ r. ⌜ numberOf r
-        ≡ numberIn (tested settings (positionLines (2 ^ settings .m) 0 (drop at (now (text .entry))))) ⌝ }
+        ≡ numberIn (tested settings (readPositions (2 ^ settings .m) 0 (drop at (now (text .entry))))) ⌝ }
 {
     let m = settings.m;
     let n = polar::power_of_two(m);
     let mut mask = [0u8; MOST_POSITIONS];
     let mut llr = [0i16; MOST_POSITIONS];
-    let read = position_lines(text, at, n, &mut mask, &mut llr);
+    let read = read_positions(text, at, n, &mut mask, &mut llr);
     let Next::At(end) = read else {
         return Answer::Refused(Refusal::MalformedText);
     };
@@ -222,7 +222,7 @@ fn read_block(
     match refusal(text, at, settings) {
         Answer::Refused(refusal) => Input::Refused(refusal),
         Answer::Done => {
-            position_lines(text, at, polar::power_of_two(m), mask, llr);
+            read_positions(text, at, polar::power_of_two(m), mask, llr);
             Input::Accepted(settings)
         }
     }

@@ -29,6 +29,6 @@ pub reports : map (λ block. report (names ++ block)) blocks
     ∷ []
 unfolding add f setRow leftStep rightStep start after ending
     digits natural number spaces separator line literal
-    input.head input.positionLine input.positionLines input.meaning
+    input.head input.readPosition input.readPositions input.meaning
     format.digits format.decimal format.shown format.line refusalText positionLines outcomeText report
 reports = refl

@@ -1,9 +1,8 @@
 -- For the contracts of private functions: the values that slices hold, and the first lines. Definitions only.
-use Prim.Native.Nat.{ℕ, _≤_}
-use mathlib.Core.Path.{_≡_}
+use Prim.Native.Nat.{ℕ}
 use mathlib.Core.List.{List, [], _∷_, _++_}
 use lib.IntN.{ℤ, pos}
-use lib.ListN.{length, getD, take}
+use lib.ListN.{getD}
 use Rattle.decoder.specs.declared.Reason.{Reason}
 use Rattle.decoder.specs.Decoder.{Ending, reasonNumber}
 use Rattle.calls.specs.Texts.{bytes}
@@ -14,16 +13,11 @@ abbrev pub sliceValues : List ℤ → List ℕ → List ℤ → List ℕ → ℕ
 sliceValues soft mark codedSoft codedMark =
     outputs (λ i. getD soft i (pos 0)) (λ i. getD mark i 0) (λ i. getD codedSoft i (pos 0)) (λ i. getD codedMark i 0)
 
-abbrev pub endingOf : ℕ → Reason → Ending
-endingOf iterations reason = record { iteration = iterations; reason = reasonNumber reason }
+abbrev pub endingAt : ℕ → Reason → Ending
+endingAt iterations reason = record { iteration = iterations; reason = reasonNumber reason }
 
 abbrev pub headingText : Ending → List ℕ
 headingText e =
     bytes "iterations reason\n"
     ++ line (pos (e .iteration) ∷ pos (e .reason) ∷ [])
     ++ bytes "position soft mark coded codedmark\n"
-
--- n counts elements at the start of a list. The second part follows from the first; stated, it spares a caller that
--- lends them a proof
-abbrev pub Within : ℕ → List ℕ → Type 0
-Within n l = (n ≤ length l) × (n ≡ length (take n l))

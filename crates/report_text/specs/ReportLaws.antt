@@ -53,7 +53,7 @@ use Rattle.format.specs.DecimalLaws.{line-length}
 use Rattle.report_input.specs.Input.{Block, largestLengths}
 use Rattle.report_input.specs.InputLaws.{Fit}
 use Rattle.report_text.specs.Report.{positionLines, outputsAt, outcomeText, blockText}
-use Rattle.report_text.specs.Private.{sliceValues, endingOf, headingText}
+use Rattle.report_text.specs.Private.{sliceValues, endingAt, headingText}
 
 -- ---- the lines of the positions, one by one
 
@@ -173,7 +173,7 @@ module _ {s : Settings} {block : Block} {work : List ℤ} {after : Slices} {r : 
       isRefusal (ended t reason) = false
 
   -- its ending is the decoder's
-  pub ending-is : (t : ℕ) (reason : Reason) → r ≡ Ended t reason → endingOf t reason ≡ endingOn s block work
+  pub ending-is : (t : ℕ) (reason : Reason) → r ≡ Ended t reason → endingAt t reason ≡ endingOn s block work
   ending-is t reason e = ap endingIn (sym (ap resultOf e) ∙ b .answer)
     where
       endingIn : Result → Ending
@@ -194,7 +194,7 @@ module _ {s : Settings} {block : Block} {work : List ℤ} {after : Slices} {r : 
       (outputs-short s (block .mask) (finalOn s block work) i (b .ceiling-le) (omega (arith, b .size))))
 
   pub block-text : (n t : ℕ) (reason : Reason) → n ≡ 2 ^ s .m → r ≡ Ended t reason
-      → outcomeText (endingOf t reason) n shownValues ≡ blockText s block work
+      → outcomeText (endingAt t reason) n shownValues ≡ blockText s block work
   unfolding outcomeText
   block-text n t reason size e =
       ap (λ (x : Ending). outcomeText x n shownValues) (ending-is t reason e)

@@ -11,9 +11,9 @@ ghost use Rattle.report_input.specs.Input.{blockOf};
 ghost use Rattle.report_input.specs.InputLaws.{Fit};
 ghost use Rattle.format.specs.Decimal.{line};
 ghost use Rattle.format.specs.Wrote.{Wrote};
-ghost use Rattle.report_text.specs.Report.{reportRoom, refusalText, positionValues, positionLines};
+ghost use Rattle.report_text.specs.Report.{Within, reportRoom, refusalText, positionValues, positionLines};
 ghost use Rattle.report_text.specs.Report.{outcomeText, blockText, report};
-ghost use Rattle.report_text.specs.Private.{sliceValues, endingOf, headingText, Within};
+ghost use Rattle.report_text.specs.Private.{sliceValues, endingAt, headingText};
 use calls::Answer;
 use calls::MOST_POSITIONS;
 use calls::MOST_WORKSPACE;
@@ -93,7 +93,7 @@ fn position_lines(
 // The first three lines of an outcome.
 fn heading(out: &mut [u8], iterations: u32, reason: Reason) -> usize
     requires { ⌜ (iterations ≤ 9999) × (100 ≤ length (now out)) ⌝ }
-    ensures { λ r. ⌜ Wrote (now (out .entry)) 0 (headingText (endingOf iterations reason)) (now (out .exit)) r ⌝ }
+    ensures { λ r. ⌜ Wrote (now (out .entry)) 0 (headingText (endingAt iterations reason)) (now (out .exit)) r ⌝ }
 {
     let end = format::copy(out, 0, b"iterations reason\n");
     let values = [iterations as i32, decoder::reason_number(reason) as i32];
@@ -118,7 +118,7 @@ fn outcome(
     requires { ⌜ length (positionLines (sliceValues (now soft) (now mark) (now «coded_soft») (now «coded_mark»)) n 0)
         ≤ 30 * n ⌝ }
     ensures { λ r. ⌜ Wrote (now (out .entry)) 0
-        (outcomeText (endingOf iterations reason) n (sliceValues (now (soft .entry)) (now (mark .entry))
+        (outcomeText (endingAt iterations reason) n (sliceValues (now (soft .entry)) (now (mark .entry))
         (now («coded_soft» .entry)) (now («coded_mark» .entry)))) (now (out .exit)) r ⌝ }
     ensures { λ r. ⌜ r ≤ reportRoom ⌝ }
 {

@@ -13,7 +13,7 @@ use Rattle.polar.specs.declared.Code.{Code}
 use Rattle.polar.specs.Mask.{maskAccepted}
 use Rattle.polar.specs.Code.{informationCount, codeNumber}
 use Rattle.settings.specs.Settings.{withinCeiling}
-use Rattle.settings.specs.Private.{blockNumber}
+use Rattle.settings.specs.Private.{maskAndLlrNumber}
 
 grouped : (values information within : Bool) → check values 8 (check information 9 (check within 10 0))
     ≡ firstRefusal (check values 8 (check information 9 0)) (check within 10 0)
@@ -35,7 +35,7 @@ module _ (code : Code) (C : ℕ) (mask : List ℕ) (llr : List ℤ) where
       )
 
   pub block-tests : 1 ≤ code .m → code .m ≤ largestM → 2 ^ code .m ≤ length mask → 2 ^ code .m ≤ length llr
-      → blockNumber (code .m) C mask llr
+      → maskAndLlrNumber (code .m) C mask llr
       ≡ firstRefusal (codeNumber code mask (length llr)) (check (withinCeiling (2 ^ code .m) C llr) 10 0)
   block-tests some small long wide =
       rw (code-tests some small long wide)

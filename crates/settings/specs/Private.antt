@@ -9,8 +9,8 @@ use Rattle.polar.specs.Code.{informationCount}
 use Rattle.settings.specs.Settings.{withinCeiling}
 
 -- 8 to 10
-abbrev pub blockNumber : ℕ → ℕ → List ℕ → List ℤ → ℕ
-blockNumber m C mask llr =
+abbrev pub maskAndLlrNumber : ℕ → ℕ → List ℕ → List ℤ → ℕ
+maskAndLlrNumber m C mask llr =
     check (maskAccepted (2 ^ m) mask) 8
     (check (leb 1 (informationCount mask (2 ^ m))) 9
     (check (withinCeiling (2 ^ m) C llr) 10 0))

@@ -8,7 +8,7 @@ ghost use lib.Signed.{leZ};
 ghost use Rattle.calls.specs.Bounds.{largestM, largestCeiling};
 ghost use Rattle.calls.specs.Numbers.{numberOf, between};
 ghost use Rattle.settings.specs.Settings.{operandFits, settingsNumber, slicesFit, withinCeiling, decodeNumber};
-ghost use Rattle.settings.specs.Private.{blockNumber};
+ghost use Rattle.settings.specs.Private.{maskAndLlrNumber};
 use calls::Answer;
 use calls::LARGEST_CEILING;
 use calls::LARGEST_M;
@@ -131,7 +131,7 @@ fn within_ceiling(llr: &[i16], n: usize, ceiling: u32) -> bool
 fn block_refusal(m: u32, ceiling: u32, mask: &[u8], llr: &[i16]) -> Answer
     requires { ⌜ (1 ≤ m) × (m ≤ largestM) × (ceiling ≤ largestCeiling) ⌝ }
     requires { ⌜ (2 ^ m ≤ length (now mask)) × (2 ^ m ≤ length (now llr)) ⌝ }
-    ensures { λ r. ⌜ numberOf r ≡ blockNumber m ceiling (now (mask .entry)) (now (llr .entry)) ⌝ }
+    ensures { λ r. ⌜ numberOf r ≡ maskAndLlrNumber m ceiling (now (mask .entry)) (now (llr .entry)) ⌝ }
 {
     match polar::code_refusal(polar::Code { m: m }, mask, llr.len()) {
         Answer::Refused(refusal) => Answer::Refused(refusal),

@@ -13,8 +13,8 @@ use lib.ListN.{length, set}
 use lib.Pow.{pow-pos, pow-lt, pow-mono}
 use borrow.Author.Tests.{eq-eqb, ne-eqb}
 use Rattle.calls.specs.Bounds.{largestM, workspaceLength}
-use Rattle.calls.specs.Memory.{overwriteFrom}
-use Rattle.calls.specs.MemoryLaws.{
+use Rattle.calls.specs.LentMemory.{overwriteFrom}
+use Rattle.calls.specs.LentMemoryLaws.{
   length-overwriteFrom,
   overwriteFrom-none,
   overwriteFrom-before,

@@ -8,8 +8,8 @@ use native.Mathlib.Omega.{arith}
 use lib.IntN.{ℤ, natAbs}
 use lib.ListN.{length, set}
 use lib.Pow.{pow-pos, shl-shr}
-use Rattle.calls.specs.Memory.{overwriteFrom}
-use Rattle.calls.specs.MemoryLaws.{
+use Rattle.calls.specs.LentMemory.{overwriteFrom}
+use Rattle.calls.specs.LentMemoryLaws.{
   length-overwriteFrom,
   overwriteFrom-none,
   overwriteFrom-store,

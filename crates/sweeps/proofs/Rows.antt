@@ -11,8 +11,8 @@ use mir.Facts.{toZ-pos}
 use mir.Syntax.{w16}
 use mir.Val.{toZ}
 use Rattle.calls.specs.Bounds.{largestCeiling, workspaceLength}
-use Rattle.calls.specs.Memory.{overwriteFrom}
-use Rattle.calls.specs.MemoryLaws.{length-overwriteFrom, overwriteFrom-none, overwriteFrom-store}
+use Rattle.calls.specs.LentMemory.{overwriteFrom}
+use Rattle.calls.specs.LentMemoryLaws.{length-overwriteFrom, overwriteFrom-none, overwriteFrom-store}
 use Rattle.calls.specs.Signs.{flipped}
 use Rattle.polar.specs.Mask.{byKind, isInformation}
 use Rattle.polar.specs.MaskLaws.{kind-information, kind-frozen, frozen-bit-zero}

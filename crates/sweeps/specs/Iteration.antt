@@ -3,7 +3,7 @@ use Prim.Native.Nat.{ℕ, zero, suc, _+_, _-_, _^_}
 use mathlib.Core.List.{List}
 use lib.IntN.{ℤ, pos}
 use lib.ListN.{getD}
-use Rattle.calls.specs.Memory.{overwrite}
+use Rattle.calls.specs.LentMemory.{overwrite}
 use Rattle.calls.specs.Signs.{flipped}
 use Rattle.polar.specs.Mask.{byKind}
 use Rattle.polar.specs.Columns.{digit, bySide}

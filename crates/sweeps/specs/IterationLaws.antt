@@ -8,8 +8,8 @@ use native.Mathlib.Omega.{arith}
 use lib.IntN.{ℤ, pos, natAbs}
 use lib.ListN.{length, getD}
 use Rattle.calls.specs.Bounds.{largestM, largestScale, workspaceLength}
-use Rattle.calls.specs.Memory.{overwrite, overwriteFrom}
-use Rattle.calls.specs.MemoryLaws.{length-overwrite, length-overwriteFrom, overwriteFrom-every, overwrite-at}
+use Rattle.calls.specs.LentMemory.{overwrite, overwriteFrom}
+use Rattle.calls.specs.LentMemoryLaws.{length-overwrite, length-overwriteFrom, overwriteFrom-every, overwrite-at}
 use Rattle.calls.specs.Signs.{flipped}
 use Rattle.calls.specs.SignLaws.{size-flipped}
 use Rattle.polar.specs.Mask.{Kind, information, frozen, kindOf, onKind}

@@ -9,7 +9,7 @@ use lib.Bits.{bitAnd}
 use lib.Dec.{eqb}
 use lib.IntN.{ℤ, pos, natAbs}
 use lib.ListN.{length, getD}
-use Rattle.calls.specs.Memory.{overwriteFrom}
+use Rattle.calls.specs.LentMemory.{overwriteFrom}
 use Rattle.polar.specs.Columns.{digit, bySide}
 use Rattle.polar.specs.DigitLaws.{Multiple}
 use Rattle.message.specs.declared.MinSum.{MinSum}

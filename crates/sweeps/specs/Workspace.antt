@@ -4,7 +4,7 @@ use Prim.Native.Nat.{ℕ, _+_, _*_, _^_}
 use mathlib.Core.List.{List}
 use lib.IntN.{ℤ, pos}
 use lib.ListN.{getD}
-use Rattle.calls.specs.Memory.{overwriteFrom}
+use Rattle.calls.specs.LentMemory.{overwriteFrom}
 
 abbrev pub row : ℕ → List ℤ → ℕ → ℕ → ℤ
 row m w k i = getD w (k * 2 ^ m + i) (pos 0)

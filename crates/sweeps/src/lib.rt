@@ -10,7 +10,7 @@ ghost use lib.Dec.{eqb};
 ghost use lib.IntN.{pos, natAbs};
 ghost use lib.ListN.{length, getD};
 ghost use Rattle.calls.specs.Bounds.{largestM, largestCeiling, workspaceLength};
-ghost use Rattle.calls.specs.Memory.{overwrite};
+ghost use Rattle.calls.specs.LentMemory.{overwrite};
 ghost use Rattle.message.specs.Message.{add, f};
 ghost use Rattle.message.specs.MessageLaws.{RuleInRange};
 ghost use Rattle.sweeps.specs.Workspace.{setL, setR};

@@ -6,7 +6,7 @@ use mathlib.Core.List.{List}
 use lib.Dec.{ltb, eqb}
 use lib.IntN.{ℤ}
 use Rattle.calls.specs.Numbers.{check, between}
-use Rattle.calls.specs.Memory.{unlessRefused}
+use Rattle.calls.specs.LentMemory.{unlessRefused}
 use Rattle.settings.specs.declared.Settings.{Settings}
 use Rattle.settings.specs.Slices.{Slices}
 use Rattle.decoder.specs.Decoder.{Result, refused, ended, resultOf, decodeResult, decodeSlices}

@@ -7,9 +7,10 @@ use mathlib.Core.List.{List}
 use lib.Dec.{leb}
 use lib.ListN.{length, getD}
 use borrow.Author.Tests.{le-leb, leb-true}
+use Rattle.calls.specs.Bounds.{largestM}
 use Rattle.calls.specs.Numbers.{check}
 use Rattle.calls.specs.NumberLaws.{check-passed}
-use Rattle.calls.specs.Memory.{overwrite, unlessRefused}
+use Rattle.calls.specs.LentMemory.{overwrite, unlessRefused}
 use Rattle.polar.specs.declared.Code.{Code}
 use Rattle.polar.specs.Code.{encodeNumber, encodeBlock, informationCount}
 use Rattle.polar.specs.CodeLaws.{CodeAccepted, MessageAccepted, encode-accepted}
@@ -30,7 +31,7 @@ module _ (code : Code) (mask message block again : List ℕ) (all : AllInformati
       → encodeNumber code mask (encodeBlock code mask message block) (length again) ≡ check long 7 0
   by-room true e = encode-again code mask all message block again accepted (leb-true _ _ e)
   by-room false e =
-      simp (le-leb 1 _ (parts .0 .some), le-leb _ 10 (parts .0 .size), le-leb _ _ (parts .0 .mask-long), e)
+      simp (le-leb 1 _ (parts .0 .some), le-leb _ largestM (parts .0 .size), le-leb _ _ (parts .0 .mask-long), e)
 
   pub second-number : encodeNumber code mask (encodeBlock code mask message block) (length again)
       ≡ twiceNumber code mask message block again

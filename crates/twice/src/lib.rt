@@ -5,7 +5,7 @@ ghost use mathlib.Core.Path.{_≡_};
 ghost use Prim.Native.Nat.{_^_};
 ghost use lib.ListN.{getD};
 ghost use Rattle.calls.specs.Numbers.{numberOf};
-ghost use Rattle.calls.specs.Memory.{overwrite};
+ghost use Rattle.calls.specs.LentMemory.{overwrite};
 ghost use Rattle.polar.specs.Code.{encodeBlock};
 ghost use Rattle.twice.specs.Twice.{AllInformation, twiceNumber};
 use calls::Answer;

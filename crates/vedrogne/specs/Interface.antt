@@ -7,7 +7,7 @@ use lib.Dec.{leb}
 use lib.IntN.{ℤ}
 use lib.ListN.{length, getD}
 use Rattle.calls.specs.Numbers.{check, firstRefusal}
-use Rattle.calls.specs.Memory.{overwrite, unlessRefused}
+use Rattle.calls.specs.LentMemory.{overwrite, unlessRefused}
 use Rattle.polar.specs.declared.Code.{Code}
 use Rattle.settings.specs.declared.Settings.{Settings}
 use Rattle.settings.specs.Slices.{Slices}
@@ -18,7 +18,13 @@ use Rattle.tally.specs.Tally.{tallyNumber, answerBy, counted}
 abbrev pub codeIn : ℕ → Code
 codeIn m = record { m = m }
 
--- ---- lists of numbers
+-- ---- lists of numbers: how many elements of a list of settings, and of a tally, are read
+
+abbrev pub settingsLength : ℕ
+settingsLength = 6
+
+abbrev pub tallyLength : ℕ
+tallyLength = 5
 
 -- in the order of the report's first name line
 abbrev pub settingsIn : List ℕ → Settings
@@ -45,18 +51,18 @@ tallyIn l =
 -- the five numbers in the first five elements, the old contents behind them
 abbrev pub tallyOut : Tally → List ℕ → List ℕ
 tallyOut t old =
-    overwrite 5 (λ i. getD (t .blocks ∷ t .«by_criterion» ∷ t .«by_limit» ∷ t .refusals ∷ t .iterations ∷ []) i 0) old
+    overwrite tallyLength (λ i. getD (t .blocks ∷ t .«by_criterion» ∷ t .«by_limit» ∷ t .refusals ∷ t .iterations ∷ []) i 0) old
 
 -- ---- what is tested before the decoder is called
 
 -- 7, for a list of settings with fewer than six elements
 abbrev pub settingsListNumber : List ℕ → ℕ
-settingsListNumber settings = check (leb 6 (length settings)) 7 0
+settingsListNumber settings = check (leb settingsLength (length settings)) 7 0
 
 -- 7, for a tally with fewer than five elements or for the settings; 15, which comes after both
 abbrev pub talliedNumber : List ℕ → List ℕ → ℕ
 talliedNumber tally settings =
-    check (leb 5 (length tally)) 7 (firstRefusal (settingsListNumber settings) (tallyNumber (tallyIn tally)))
+    check (leb tallyLength (length tally)) 7 (firstRefusal (settingsListNumber settings) (tallyNumber (tallyIn tally)))
 
 -- ---- the number that is returned for an answer, and what the two numbers lent for iteration and reason hold
 -- afterwards

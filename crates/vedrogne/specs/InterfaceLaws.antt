@@ -6,11 +6,13 @@ use native.Mathlib.Omega.{arith}
 use lib.IntN.{ℤ}
 use lib.ListN.{length, set}
 use borrow.Author.Tests.{le-leb, lt-leb}
-use Rattle.calls.specs.Memory.{unlessRefused}
+use Rattle.calls.specs.LentMemory.{unlessRefused}
 use Rattle.decoder.specs.Decoder.{Ending, ending, Result, resultBy, callNumber}
 use Rattle.tally.specs.declared.Tally.{Tally}
 use Rattle.tally.specs.Tally.{tallyNumber, counted, answerBy, tallyBy}
 use Rattle.vedrogne.specs.Interface.{
+  settingsLength,
+  tallyLength,
   settingsIn,
   tallyIn,
   tallyOut,
@@ -50,21 +52,21 @@ tally-by-number (suc number) l answer = tally-kept l
 
 -- ---- the tests before the decoder
 
-pub settings-short : (settings : List ℕ) → length settings < 6 → settingsListNumber settings ≡ 7
-settings-short settings h = rw (lt-leb 6 (length settings) h)
+pub settings-short : (settings : List ℕ) → length settings < settingsLength → settingsListNumber settings ≡ 7
+settings-short settings h = rw (lt-leb settingsLength (length settings) h)
 
-pub settings-long : (settings : List ℕ) → 6 ≤ length settings → settingsListNumber settings ≡ 0
-settings-long settings h = rw (le-leb 6 (length settings) h)
+pub settings-long : (settings : List ℕ) → settingsLength ≤ length settings → settingsListNumber settings ≡ 0
+settings-long settings h = rw (le-leb settingsLength (length settings) h)
 
 module _ (tally settings : List ℕ) where
-  pub tallied-short : length tally < 5 → talliedNumber tally settings ≡ 7
-  tallied-short h = rw (lt-leb 5 (length tally) h)
+  pub tallied-short : length tally < tallyLength → talliedNumber tally settings ≡ 7
+  tallied-short h = rw (lt-leb tallyLength (length tally) h)
 
-  pub tallied-settings-short : 5 ≤ length tally → length settings < 6 → talliedNumber tally settings ≡ 7
-  tallied-settings-short h k = rw (le-leb 5 (length tally) h, lt-leb 6 (length settings) k)
+  pub tallied-settings-short : tallyLength ≤ length tally → length settings < settingsLength → talliedNumber tally settings ≡ 7
+  tallied-settings-short h k = rw (le-leb tallyLength (length tally) h, lt-leb settingsLength (length settings) k)
 
-  pub tallied-long : 5 ≤ length tally → 6 ≤ length settings → talliedNumber tally settings ≡ tallyNumber (tallyIn tally)
-  tallied-long h k = rw (le-leb 5 (length tally) h, le-leb 6 (length settings) k)
+  pub tallied-long : tallyLength ≤ length tally → settingsLength ≤ length settings → talliedNumber tally settings ≡ tallyNumber (tallyIn tally)
+  tallied-long h k = rw (le-leb tallyLength (length tally) h, le-leb settingsLength (length settings) k)
 
 -- ---- after a refusal, whoever refuses, the lent slices, iteration and reason are as they were
 

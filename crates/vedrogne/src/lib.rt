@@ -13,6 +13,8 @@ ghost use Rattle.channel.specs.Front.{frontNumber, frontLlrs};
 ghost use Rattle.settings.specs.Slices.{slices};
 ghost use Rattle.decoder.specs.Decoder.{resultOf};
 ghost use Rattle.vedrogne.specs.Interface.{
+  settingsLength,
+  tallyLength,
   codeIn,
   settingsIn,
   tallyIn,
@@ -41,7 +43,7 @@ const SHORT_LIST: u32 = 7;
 
 // The one place where a list becomes settings.
 fn settings_in(settings: &[u32]) -> Settings
-    requires { ⌜ 6 ≤ length (now settings) ⌝ }
+    requires { ⌜ settingsLength ≤ length (now settings) ⌝ }
     ensures { λ r. ⌜ r ≡ settingsIn (now (settings .entry)) ⌝ }
 {
     Settings {
@@ -55,7 +57,7 @@ fn settings_in(settings: &[u32]) -> Settings
 }
 
 fn tally_in(tally: &[u32]) -> Tally
-    requires { ⌜ 5 ≤ length (now tally) ⌝ }
+    requires { ⌜ tallyLength ≤ length (now tally) ⌝ }
     ensures { λ r. ⌜ r ≡ tallyIn (now (tally .entry)) ⌝ }
 {
     Tally {
@@ -68,7 +70,7 @@ fn tally_in(tally: &[u32]) -> Tally
 }
 
 fn tally_out(counts: Tally, tally: &mut [u32])
-    requires { ⌜ 5 ≤ length (now tally) ⌝ }
+    requires { ⌜ tallyLength ≤ length (now tally) ⌝ }
     ensures { λ _. ⌜ now (tally .exit) ≡ tallyOut counts (now (tally .entry)) ⌝ }
 {
     tally[0] = counts.blocks;

@@ -9,8 +9,8 @@ use lib.Ieee.{binary32, mul, nan}
 use mir.Syntax.{w16}
 use mir.Val.{toZ, ofZ}
 use borrow.Author.Needs.{needs}
-use Rattle.calls.specs.Memory.{overwrite}
-use Rattle.calls.specs.MemoryLaws.{length-overwrite, overwrite-store}
+use Rattle.calls.specs.LentMemory.{overwrite}
+use Rattle.calls.specs.LentMemoryLaws.{length-overwrite, overwrite-store}
 use Rattle.channel.specs.Front.{quantised}
 use Rattle.channel.proofs.Samples.{sample-finite, product-number}
 use Rattle.channel.proofs.fill_products.Statement.{statement}

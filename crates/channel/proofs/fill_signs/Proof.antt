@@ -10,8 +10,8 @@ use mir.Syntax.{w16}
 use mir.Val.{toZ, ofZ}
 use mir.Facts.{toZ-ofZ}
 use borrow.Author.Needs.{needs}
-use Rattle.calls.specs.Memory.{overwrite}
-use Rattle.calls.specs.MemoryLaws.{length-overwrite, overwrite-store}
+use Rattle.calls.specs.LentMemory.{overwrite}
+use Rattle.calls.specs.LentMemoryLaws.{length-overwrite, overwrite-store}
 use Rattle.channel.specs.Private.{bySign}
 use Rattle.channel.proofs.fill_signs.Statement.{statement}
 use Rattle.channel.proofs.fill_signs.Tie as tie

@@ -9,7 +9,7 @@ use lib.Ieee.{nan}
 use borrow.Author.Needs.{needs}
 use Rattle.calls.specs.Numbers.{refusalNumber, numberOf}
 use Rattle.calls.specs.NumberLaws.{refused-keeps}
-use Rattle.calls.specs.Memory.{overwrite}
+use Rattle.calls.specs.LentMemory.{overwrite}
 use Rattle.channel.specs.Front.{llrOf, frontNumber}
 use Rattle.channel.proofs.Accepted.{Accepted, accepted, block-width}
 use Rattle.channel.proofs.front.Statement.{statement}

@@ -20,7 +20,7 @@ power-of-two-requires c κs = search needs
 
 least-size-requires : tie.Need-least-size-requires
 least-size-requires c κs =
-    let s = c .before .before .before .before .before .before in rw (c .power-of-two .ensures) (s .pre .1 .0)
+    let s = c .before .before .before .before .before .before .before in rw (c .power-of-two .ensures) (s .pre .1 .1 .0)
 
 enum-known-criterion-2 : tie.Need-enum-known-criterion-2
 enum-known-criterion-2 c = search needs

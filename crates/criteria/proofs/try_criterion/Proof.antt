@@ -36,9 +36,12 @@ holds-now-requires c κs =
     let s = start m in (
       s .pre .0 .0,
       (
-        s .pre .1 .1 .0,
-        mark-bytes (λ i. getD (now (s .args .soft)) i (pos 0)) (marked m) (s .pre .1 .0 .1),
-        s .pre .1 .1 .1,
+        s .pre .1 .0 .0,
+        (
+          s .pre .1 .1 .0,
+          mark-bytes (λ i. getD (now (s .args .soft)) i (pos 0)) (marked m) (s .pre .1 .0 .1),
+          s .pre .1 .1 .1,
+        ),
       ),
     )
 
@@ -54,7 +57,7 @@ returns c =
       memory-is = m .before .before .before .next .ensures;
       holds-is =
           c .holds-now .ensures
-          ∙ holds-now-same (s .args .m) (s .args .criterion) _ _ _ _ _ _ _ (λ i l. refl)
+          ∙ holds-now-same (s .args .m) (s .args .criterion) (now (s .args .mask)) _ _ _ _ _ _ _ (λ i l. refl)
           (λ i l. written-at (marked m) i 0 l (s .pre .1 .0 .1)) (λ i l. refl);
     }
 

@@ -7,7 +7,7 @@ use denote.Ref.{now}
 use lib.Pow.{pow-pos}
 use mir.Syntax.{w16}
 use mir.Val.{toZ, ofZ}
-use Rattle.calls.specs.Memory.{overwrite}
+use Rattle.calls.specs.LentMemory.{overwrite}
 use Rattle.calls.specs.WrittenLaws.{Written, written-none, written-length, written-next, written-all}
 use Rattle.message.specs.Message.{add}
 use Rattle.message.specs.declared.MinSum.{MinSum}

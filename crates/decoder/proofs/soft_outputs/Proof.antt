@@ -9,7 +9,7 @@ use lib.ListN.{getD}
 use lib.Pow.{pow-pos}
 use mir.Syntax.{w16}
 use mir.Val.{toZ, ofZ}
-use Rattle.calls.specs.Memory.{overwrite}
+use Rattle.calls.specs.LentMemory.{overwrite}
 use Rattle.calls.specs.WrittenLaws.{Written, written-none, written-length, written-next, written-all}
 use Rattle.message.specs.declared.MinSum.{MinSum}
 use Rattle.calls.proofs.Signed.{told}

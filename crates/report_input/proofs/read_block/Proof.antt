@@ -19,7 +19,7 @@ use Rattle.report_input.proofs.read_block.Reads as reads
 use Rattle.report_input.proofs.read_block.Lts as lts
 use Rattle.report_input.proofs.is_block_length.Reads as is-block-length-reads
 use Rattle.report_input.proofs.refusal.Reads as refusal-reads
-use Rattle.report_input.proofs.position_lines.Reads as position-lines-reads
+use Rattle.report_input.proofs.read_positions.Reads as read-positions-reads
 use Rattle.polar.proofs.power_of_two.Reads as power-of-two-reads
 
 -- what the function is handed, where the block length is in its range
@@ -61,9 +61,9 @@ enum-told c = search needs
 power-of-two-requires : tie.Need-power-of-two-requires
 power-of-two-requires c κs = range (c .before .before .before) .1
 
-position-lines-requires : tie.Need-position-lines-requires
-position-lines-requires c κs =
-    omega (arith, small (c .before .before), c .before .position-lines-arg .given, c .position-lines-arg2 .given)
+read-positions-requires : tie.Need-read-positions-requires
+read-positions-requires c κs =
+    omega (arith, small (c .before .before), c .before .read-positions-arg .given, c .read-positions-arg2 .given)
 
 returns-2 : tie.Need-returns-2
 returns-2 c =
@@ -79,7 +79,7 @@ returns-3 c =
     let range = told .before .before .before in
     let a = start range .args in
     let n = c .before .before .before .power-of-two in
-    let lines = c .position-lines in
+    let lines = c .read-positions in
     let called = sym (ap numberOf (told .enum-told .given .1)) ∙ told .before .before .refusal .ensures in
     rw (sized-tested (a .settings) (behind range) (passed range))
     (read-accepted (a .settings) (a .text .now) (behind range) (n .result) (lines .result) called (n .ensures)
@@ -95,6 +95,6 @@ read-block-spec =
     enum-known-refusal
     enum-told
     power-of-two-requires
-    position-lines-requires
+    read-positions-requires
     returns-2
     returns-3)

@@ -8,7 +8,7 @@ use lib.Pow.{pow-mono}
 use lib.Seq.{length-take-le}
 use Rattle.scan.specs.Reading.{Reading, found}
 use Rattle.scan.specs.Answers.{readTo}
-use Rattle.report_input.specs.Input.{Block, blockOf, positionLines}
+use Rattle.report_input.specs.Input.{Block, blockOf, readPositions}
 use Rattle.report_input.specs.InputLaws.{lines-malformed, lines-followed, lines-number}
 use Rattle.report_input.specs.Private.{firstOf}
 use borrow.Author.Needs.{needs}
@@ -16,15 +16,15 @@ use Rattle.report_input.proofs.refusal.Statement.{statement}
 use Rattle.report_input.proofs.refusal.Tie as tie
 use Rattle.report_input.proofs.refusal.Reads as reads
 use Rattle.report_input.proofs.refusal.Lts as lts
-use Rattle.report_input.proofs.position_lines.Reads as position-lines-reads
+use Rattle.report_input.proofs.read_positions.Reads as read-positions-reads
 use Rattle.polar.proofs.power_of_two.Reads as power-of-two-reads
 use Rattle.settings.proofs.refusal.Reads as refusal-reads
 
 small : (c : tie.After-power-of-two) → c .power-of-two .result ≤ 2 ^ 10
 small c = rw (c .power-of-two .ensures) (pow-mono (c .before .before .pre .1))
 
--- what the function is handed, and what the call of `position_lines` read
-module _ (c : tie.After-position-lines) where
+-- what the function is handed, and what the call of `read_positions` read
+module _ (c : tie.After-read-positions) where
   abbrev start : tie.Start
   start = c .before .before .before .before .before
 
@@ -33,20 +33,20 @@ module _ (c : tie.After-position-lines) where
 
   abbrev block : Block
   block =
-      let read = c .position-lines .last .1 .1 .1 in
+      let read = c .read-positions .last .1 .1 .1 in
       firstOf (c .before .before .before .power-of-two .result) (blockOf (read .0) (read .1 .0))
 
   abbrev lines : Reading Block
-  lines = positionLines (2 ^ start .args .settings .m) 0 (drop (start .args .at) text)
+  lines = readPositions (2 ^ start .args .settings .m) 0 (drop (start .args .at) text)
 
-  read : lines ≡ readTo text block (c .position-lines .result)
+  read : lines ≡ readTo text block (c .read-positions .result)
   read =
-      ap (λ (n : ℕ). positionLines n 0 (drop (start .args .at) text))
+      ap (λ (n : ℕ). readPositions n 0 (drop (start .args .at) text))
       (sym (c .before .before .before .power-of-two .ensures))
-      ∙ c .position-lines .ensures .0
+      ∙ c .read-positions .ensures .0
 
 module _ (c : tie.After-known-told) where
-  abbrev reading : tie.After-position-lines
+  abbrev reading : tie.After-read-positions
   reading = c .before .before .before .before .before
 
   at-end : lines reading ≡ found (block reading) (drop (c .before .read .given .0 .0) (text reading))
@@ -55,14 +55,14 @@ module _ (c : tie.After-known-told) where
 power-of-two-requires : tie.Need-power-of-two-requires
 power-of-two-requires c κs = search needs
 
-slice-aggregate-position-lines : tie.Need-slice-aggregate-position-lines
-slice-aggregate-position-lines c = search needs
+slice-aggregate-read-positions : tie.Need-slice-aggregate-read-positions
+slice-aggregate-read-positions c = search needs
 
-slice-aggregate-position-lines-2 : tie.Need-slice-aggregate-position-lines-2
-slice-aggregate-position-lines-2 c = search needs
+slice-aggregate-read-positions-2 : tie.Need-slice-aggregate-read-positions-2
+slice-aggregate-read-positions-2 c = search needs
 
-position-lines-requires : tie.Need-position-lines-requires
-position-lines-requires c κs = (small (c .before .before), small (c .before .before))
+read-positions-requires : tie.Need-read-positions-requires
+read-positions-requires c κs = (small (c .before .before), small (c .before .before))
 
 enum-known-read : tie.Need-enum-known-read
 enum-known-read c = search needs
@@ -112,9 +112,9 @@ refusal-spec =
     tie.close
     (tie.spec
     power-of-two-requires
-    slice-aggregate-position-lines
-    slice-aggregate-position-lines-2
-    position-lines-requires
+    slice-aggregate-read-positions
+    slice-aggregate-read-positions-2
+    read-positions-requires
     enum-known-read
     enum-told
     returns

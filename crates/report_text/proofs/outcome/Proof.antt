@@ -4,7 +4,7 @@ use native.Mathlib.Omega.{arith}
 use Rattle.format.specs.WroteLaws.{wrote-then, wrote-length}
 use Rattle.report_text.specs.ReportLaws.{reason-le, heading-room}
 use Rattle.report_text.specs.Report.{outcomeText}
-use Rattle.report_text.specs.Private.{endingOf}
+use Rattle.report_text.specs.Private.{endingAt}
 use borrow.Author.Needs.{needs}
 use Rattle.report_text.proofs.outcome.Statement.{statement}
 use Rattle.report_text.proofs.outcome.Tie as tie
@@ -23,7 +23,7 @@ module _ (c : tie.After-heading) where
       omega (
         arith,
         c .heading .ensures .next-is,
-        heading-room (endingOf (a .iterations) (a .reason)) (start .pre .0 .0) (omega (arith, reason-le (a .reason))),
+        heading-room (endingAt (a .iterations) (a .reason)) (start .pre .0 .0) (omega (arith, reason-le (a .reason))),
       )
 
 heading-requires : tie.Need-heading-requires

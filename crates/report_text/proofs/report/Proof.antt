@@ -8,12 +8,11 @@ use lib.ListN.{length, take, length-take, length-replicate}
 use lib.Seq.{length-take-le}
 use Rattle.format.specs.Wrote.{Wrote}
 use Rattle.format.specs.WroteLaws.{wrote-length}
-use Rattle.report_text.specs.Private.{Within}
 use Rattle.calls.specs.Bounds.{mostWorkspace}
 use Rattle.report_input.specs.Input.{Block, blockOf, meaning}
 use Rattle.report_input.specs.Private.{firstOf}
 use Rattle.report_input.specs.ReadLaws.{AcceptedText, accepted-text, refused-text}
-use Rattle.report_text.specs.Report.{reportRoom, textOf, report}
+use Rattle.report_text.specs.Report.{Within, reportRoom, textOf, report}
 use Rattle.report_text.specs.ReportLaws.{fit-length}
 use borrow.Author.Needs.{needs}
 use Rattle.report_text.proofs.report.Statement.{statement}

@@ -9,7 +9,7 @@ use Rattle.calls.specs.Numbers.{numberOf, check, firstRefusal}
 use Rattle.calls.specs.NumberLaws.{refused-first}
 use Rattle.polar.specs.Code.{codeNumber}
 use Rattle.settings.specs.Settings.{withinCeiling}
-use Rattle.settings.specs.Private.{blockNumber}
+use Rattle.settings.specs.Private.{maskAndLlrNumber}
 use Rattle.settings.proofs.Tests.{block-tests}
 use Rattle.settings.proofs.block_refusal.Statement.{statement}
 use Rattle.settings.proofs.block_refusal.Tie as tie
@@ -21,7 +21,7 @@ module _ (s : tie.Start) where
   abbrev within : Bool
   within = withinCeiling (2 ^ s .args .m) (s .args .ceiling) (now (s .args .llr))
 
-  number : blockNumber (s .args .m) (s .args .ceiling) (now (s .args .mask)) (now (s .args .llr))
+  number : maskAndLlrNumber (s .args .m) (s .args .ceiling) (now (s .args .mask)) (now (s .args .llr))
       ≡ firstRefusal code-number (check within 10 0)
   number =
       block-tests (record { m = s .args .m }) (s .args .ceiling) (now (s .args .mask)) (now (s .args .llr))

@@ -6,6 +6,7 @@ use borrow.Author.Tests.{le-leb, lt-leb, not-true, not-false}
 use lib.Dec.{leb}
 use Rattle.calls.specs.Bounds.{largestM, largestCeiling, largestScale}
 use Rattle.calls.specs.Numbers.{between}
+use Rattle.settings.specs.Settings.{largestLimit}
 use Rattle.settings.proofs.settings_refusal.Statement.{statement}
 use Rattle.settings.proofs.settings_refusal.Tie as tie
 
@@ -32,7 +33,7 @@ ceiling c = sym (c .before .between2 .ensures) ∙ not-false _ (c .if2 .left)
 scale : (c : tie.Else3) → between 1 largestScale (past3 c .args .settings .scale) ≡ true
 scale c = sym (c .before .between3 .ensures) ∙ not-false _ (c .if3 .left)
 
-limit : (c : tie.Else4) → between 1 200 (past4 c .args .settings .limit) ≡ true
+limit : (c : tie.Else4) → between 1 largestLimit (past4 c .args .settings .limit) ≡ true
 limit c = sym (c .before .between4 .ensures) ∙ not-false _ (c .if4 .left)
 
 criterion : (c : tie.Else5) → leb (past4 (c .before) .args .settings .criterion) 3 ≡ true

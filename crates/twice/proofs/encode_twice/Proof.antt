@@ -7,7 +7,7 @@ use denote.Ref.{now}
 use lib.ListN.{length, getD}
 use Rattle.calls.specs.Numbers.{numberOf}
 use Rattle.calls.specs.NumberLaws.{refused-first, refused-keeps}
-use Rattle.calls.specs.Memory.{overwrite}
+use Rattle.calls.specs.LentMemory.{overwrite}
 use Rattle.polar.specs.declared.Code.{Code}
 use Rattle.polar.specs.Code.{encodeNumber}
 use Rattle.twice.specs.Twice.{AllInformation, twiceNumber}

@@ -1,4 +1,4 @@
--- `position_line` meets its contract.
+-- `read_position` meets its contract.
 use mathlib.Core.Path.{_≡_, ap, _∙_}
 use mathlib.Core.List.{List}
 use borrow.Author.Tests.{eq-eqb, ne-eqb}
@@ -12,13 +12,13 @@ use Rattle.scan.specs.Reading.{found, malformed}
 use Rattle.scan.specs.Lines.{line}
 use Rattle.scan.specs.Answers.{readTo}
 use Rattle.report_input.specs.Input.{valueAt, unsigned, maskValue, llrValue}
-use Rattle.report_input.specs.InputLaws.{position-line-found, position-line-malformed}
+use Rattle.report_input.specs.InputLaws.{read-position-found, read-position-malformed}
 use Rattle.scan.proofs.Signed.{kept}
 use borrow.Author.Needs.{needs}
-use Rattle.report_input.proofs.position_line.Statement.{statement}
-use Rattle.report_input.proofs.position_line.Tie as tie
-use Rattle.report_input.proofs.position_line.Reads as reads
-use Rattle.report_input.proofs.position_line.Lts as lts
+use Rattle.report_input.proofs.read_position.Statement.{statement}
+use Rattle.report_input.proofs.read_position.Tie as tie
+use Rattle.report_input.proofs.read_position.Reads as reads
+use Rattle.report_input.proofs.read_position.Lts as lts
 use Rattle.report_input.proofs.llr_value.Reads as llr-value-reads
 use Rattle.report_input.proofs.mask_value.Reads as mask-value-reads
 use Rattle.report_input.proofs.unsigned.Reads as unsigned-reads
@@ -61,7 +61,7 @@ returns : tie.Need-returns
 returns c =
     let called = c .before .before .before in
     let a = called .before .before .before .args in
-    position-line-malformed (a .position) (drop (a .at) (a .text .now))
+    read-position-malformed (a .position) (drop (a .at) (a .text .now))
     (called .line .ensures .0
     ∙ ap (readTo (a .text .now) (take 3 (called .line .last .1 .1 .1 .0))) (c .enum-told .given .1))
 
@@ -98,17 +98,17 @@ returns-2 c =
     toZ-ofZ {w = w16} (record { sfits = c .llr-value .ok })
     ∙ c .llr-value .ensures
     ∙ ap llrValue (kept (valueAt zs 2) (c .before .llr-value-arg .given)) in
-    position-line-found (start told .args .position) zs _ _ (read told)
+    read-position-found (start told .args .position) zs _ _ (read told)
     ∙ rw (← position (test .before), eq-eqb _ _ (test .if1 .taken), frozen, llr)
 
 returns-3 : tie.Need-returns-3
 returns-3 c =
     let told = c .before .before .before in
-    position-line-found (start told .args .position) (values told) _ _ (read told)
+    read-position-found (start told .args .position) (values told) _ _ (read told)
     ∙ rw (← position (c .before), ne-eqb _ _ (c .if1 .left))
 
-pub position-line-spec : {M : Type 1} → statement M
-position-line-spec =
+pub read-position-spec : {M : Type 1} → statement M
+read-position-spec =
     tie.close
     (tie.spec
     slice-aggregate-line

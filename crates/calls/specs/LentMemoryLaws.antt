@@ -5,7 +5,7 @@ use mathlib.Core.List.{List, [], _∷_}
 use native.Mathlib.Nat.{le-of-suc-le-suc, not-suc-le-zero, add-zero, add-suc, zero-add, suc-add}
 use native.Mathlib.Omega.{arith}
 use lib.ListN.{length, getD, set}
-use Rattle.calls.specs.Memory.{overwrite, overwriteFrom, unlessRefused}
+use Rattle.calls.specs.LentMemory.{overwrite, overwriteFrom, unlessRefused}
 
 module _ {A : Type 0} where
   pub length-overwrite : (n : ℕ) (g : ℕ → A) (l : List A) → length (overwrite n g l) ≡ length l

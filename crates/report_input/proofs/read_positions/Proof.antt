@@ -1,4 +1,4 @@
--- `position_lines` meets its contract.
+-- `read_positions` meets its contract.
 use Prim.Native.Nat.{ℕ, _-_, _≤_}
 use mathlib.Core.Path.{_≡_, refl, sym, ap, _∙_}
 use native.Mathlib.Omega.{arith}
@@ -9,20 +9,20 @@ use mir.Val.{toZ, ofZ}
 use mir.Facts.{toZ-ofZ}
 use Rattle.scan.specs.Reading.{found}
 use lib.Seq.{drop-set-lt}
-use Rattle.report_input.specs.Input.{positionLines}
+use Rattle.report_input.specs.Input.{readPositions}
 use Rattle.report_input.specs.InputLaws.{
   prefixed,
   prefixed-empty,
-  position-lines-next,
-  position-lines-stop,
-  position-lines-end,
+  read-positions-next,
+  read-positions-stop,
+  read-positions-end,
 }
 use Rattle.report_input.specs.Private.{positionRead}
-use Rattle.report_input.proofs.position_lines.Statement.{statement}
-use Rattle.report_input.proofs.position_lines.Tie as tie
-use Rattle.report_input.proofs.position_lines.Reads as reads
-use Rattle.report_input.proofs.position_lines.Lts as lts
-use Rattle.report_input.proofs.position_line.Reads as position-line-reads
+use Rattle.report_input.proofs.read_positions.Statement.{statement}
+use Rattle.report_input.proofs.read_positions.Tie as tie
+use Rattle.report_input.proofs.read_positions.Reads as reads
+use Rattle.report_input.proofs.read_positions.Lts as lts
+use Rattle.report_input.proofs.read_position.Reads as read-position-reads
 
 abbrev Inv-loop : tie.InvT-loop
 Inv-loop text at n mask₀ llr₀ i₀ next₀ mask llr i next =
@@ -31,8 +31,8 @@ Inv-loop text at n mask₀ llr₀ i₀ next₀ mask llr i next =
     × (length llr ≡ length llr₀)
     × (drop n mask ≡ drop n mask₀)
     × (drop n llr ≡ drop n llr₀)
-    × (positionLines n 0 (drop at text)
-    ≡ prefixed (take i mask) (take i llr) (positionLines (n - i) i (drop next text)))
+    × (readPositions n 0 (drop at text)
+    ≡ prefixed (take i mask) (take i llr) (readPositions (n - i) i (drop next text)))
 
 abbrev μ-loop : tie.MeasureT-loop
 μ-loop text at n mask₀ llr₀ i₀ next₀ mask llr i next = n - i
@@ -41,12 +41,12 @@ loop-holds : tie.Need-loop-holds Inv-loop μ-loop
 loop-holds c =
     let a = c .before .before .args in
     let t = drop (a .at) (a .text .now) in
-    let none : positionLines (a .n - 0) 0 t ≡ positionLines (a .n) 0 t =
-    ap (λ (k : ℕ). positionLines k 0 t) (omega arith) in
-    (omega arith, refl, refl, refl, refl, sym (prefixed-empty (positionLines (a .n - 0) 0 t) ∙ none))
+    let none : readPositions (a .n - 0) 0 t ≡ readPositions (a .n) 0 t =
+    ap (λ (k : ℕ). readPositions k 0 t) (omega arith) in
+    (omega arith, refl, refl, refl, refl, sym (prefixed-empty (readPositions (a .n - 0) 0 t) ∙ none))
 
-position-line-requires : tie.Need-position-line-requires Inv-loop μ-loop
-position-line-requires c κs = search needs
+read-position-requires : tie.Need-read-position-requires Inv-loop μ-loop
+read-position-requires c κs = search needs
 
 enum-known-position : tie.Need-enum-known-position Inv-loop μ-loop
 enum-known-position c = search needs
@@ -66,9 +66,9 @@ returns c =
     let a = turn .before .before .before .args in
     let at = turn .loop in
     let called =
-    c .before .before .position-line .ensures ∙ ap (positionRead (a .text .now)) (c .enum-told .given .1) in
+    c .before .before .read-position .ensures ∙ ap (positionRead (a .text .now)) (c .enum-told .given .1) in
     let stop =
-    position-lines-stop (a .n) (at .i) (take (at .i) (at .mask)) (take (at .i) (at .llr))
+    read-positions-stop (a .n) (at .i) (take (at .i) (at .mask)) (take (at .i) (at .llr))
     (drop (at .next) (a .text .now)) (omega arith) called in
     (at .inv .5 ∙ stop, (at .inv .3, at .inv .4))
 
@@ -94,7 +94,7 @@ loop-again c =
     let at = turn .loop in
     let frozen = c .before .position .given .0 .0 in
     let llr = c .before .position .given .0 .1 .0 in
-    let called = c .before .before .before .position-line .ensures in
+    let called = c .before .before .before .read-position .ensures in
     let line = called ∙ ap (positionRead (a .text .now)) (c .before .position .given .1) in
     let same : toZ w16 (ofZ w16 llr) ≡ llr = toZ-ofZ {w = w16} (record { sfits = c .known-told .given .1 .0 .1 }) in
     rw same (
@@ -104,7 +104,7 @@ loop-again c =
       drop-set-lt (a .n) (at .mask) (at .i) frozen (omega arith) ∙ at .inv .3,
       drop-set-lt (a .n) (at .llr) (at .i) llr (omega arith) ∙ at .inv .4,
       at .inv .5
-          ∙ position-lines-next (a .n) (at .i) (at .mask) (at .llr) (drop (at .next) (a .text .now)) _
+          ∙ read-positions-next (a .n) (at .i) (at .mask) (at .llr) (drop (at .next) (a .text .now)) _
           (record { frozen = frozen; llr = llr }) (omega arith) (omega arith) (omega arith) line,
     )
 
@@ -120,19 +120,19 @@ returns-2 c =
     let at = c .before .loop in
     let all : at .i ≡ a .n = omega arith in
     let rest = drop (at .next) (a .text .now) in
-    let last : prefixed (take (at .i) (at .mask)) (take (at .i) (at .llr)) (positionLines (a .n - at .i) (at .i) rest)
+    let last : prefixed (take (at .i) (at .mask)) (take (at .i) (at .llr)) (readPositions (a .n - at .i) (at .i) rest)
     ≡ found (record { mask = take (a .n) (at .mask); llr = take (a .n) (at .llr) }) rest =
-    rw all (position-lines-end (a .n) (take (a .n) (at .mask)) (take (a .n) (at .llr)) rest) in
+    rw all (read-positions-end (a .n) (take (a .n) (at .mask)) (take (a .n) (at .llr)) rest) in
     (at .inv .5 ∙ last, (at .inv .3, at .inv .4))
 
-pub position-lines-spec : {M : Type 1} → statement M
-position-lines-spec =
+pub read-positions-spec : {M : Type 1} → statement M
+read-positions-spec =
     tie.close
     (tie.spec
     Inv-loop
     μ-loop
     loop-holds
-    position-line-requires
+    read-position-requires
     enum-known-position
     enum-told
     same-length
