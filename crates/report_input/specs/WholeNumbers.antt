@@ -184,10 +184,12 @@ compared-whole zs mask llr mask-long llr-long =
     next-test _ _ 4 _ _ _ (up-to-whole 3 (valueAt zs 4) (lit< tt)) (λ five.
     let m : unsigned (valueAt zs 0) ≡ natAbs (valueAt zs 0) = in-range 1 largestM (valueAt zs 0) one in
     let m-range : (1 ≤ natAbs (valueAt zs 0)) × (natAbs (valueAt zs 0) ≤ largestM) =
-    between-passed 1 largestM (natAbs (valueAt zs 0)) (rw (← m) (range-whole 1 largestM (valueAt zs 0) (lit< tt) ∙ one)) in
+    between-passed 1 largestM (natAbs (valueAt zs 0))
+    (rw (← m) (range-whole 1 largestM (valueAt zs 0) (lit< tt) ∙ one)) in
     let C : unsigned (valueAt zs 1) ≡ natAbs (valueAt zs 1) = in-range 1 largestCeiling (valueAt zs 1) two in
     let C-range : (1 ≤ natAbs (valueAt zs 1)) × (natAbs (valueAt zs 1) ≤ largestCeiling) =
-    between-passed 1 largestCeiling (natAbs (valueAt zs 1)) (rw (← C) (range-whole 1 largestCeiling (valueAt zs 1) (lit< tt) ∙ two)) in
+    between-passed 1 largestCeiling (natAbs (valueAt zs 1))
+    (rw (← C) (range-whole 1 largestCeiling (valueAt zs 1) (lit< tt) ∙ two)) in
     let operand : operandFits (unsigned (valueAt zs 1)) (unsigned (valueAt zs 4)) (unsigned (valueAt zs 5))
     ≡ operandInRange (natAbs (valueAt zs 1)) (valueAt zs 4) (valueAt zs 5) =
     rw C (operand-whole (natAbs (valueAt zs 1)) (valueAt zs 4) (valueAt zs 5) (omega arith) five) in

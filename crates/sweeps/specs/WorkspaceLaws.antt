@@ -8,7 +8,12 @@ use lib.Arith.{digits-lt}
 use lib.IntN.{ℤ, pos}
 use lib.ListN.{length}
 use Rattle.calls.specs.LentMemory.{overwriteFrom}
-use Rattle.calls.specs.LentMemoryLaws.{length-overwriteFrom, overwriteFrom-at, overwriteFrom-before, overwriteFrom-behind}
+use Rattle.calls.specs.LentMemoryLaws.{
+  length-overwriteFrom,
+  overwriteFrom-at,
+  overwriteFrom-before,
+  overwriteFrom-behind,
+}
 use Rattle.calls.specs.Bounds.{workspaceLength}
 use Rattle.sweeps.specs.Workspace.{row, setRow}
 

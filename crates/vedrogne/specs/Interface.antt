@@ -51,7 +51,8 @@ tallyIn l =
 -- the five numbers in the first five elements, the old contents behind them
 abbrev pub tallyOut : Tally → List ℕ → List ℕ
 tallyOut t old =
-    overwrite tallyLength (λ i. getD (t .blocks ∷ t .«by_criterion» ∷ t .«by_limit» ∷ t .refusals ∷ t .iterations ∷ []) i 0) old
+    overwrite tallyLength
+    (λ i. getD (t .blocks ∷ t .«by_criterion» ∷ t .«by_limit» ∷ t .refusals ∷ t .iterations ∷ []) i 0) old
 
 -- ---- what is tested before the decoder is called
 

@@ -62,10 +62,12 @@ module _ (tally settings : List ℕ) where
   pub tallied-short : length tally < tallyLength → talliedNumber tally settings ≡ 7
   tallied-short h = rw (lt-leb tallyLength (length tally) h)
 
-  pub tallied-settings-short : tallyLength ≤ length tally → length settings < settingsLength → talliedNumber tally settings ≡ 7
+  pub tallied-settings-short : tallyLength ≤ length tally → length settings < settingsLength
+      → talliedNumber tally settings ≡ 7
   tallied-settings-short h k = rw (le-leb tallyLength (length tally) h, lt-leb settingsLength (length settings) k)
 
-  pub tallied-long : tallyLength ≤ length tally → settingsLength ≤ length settings → talliedNumber tally settings ≡ tallyNumber (tallyIn tally)
+  pub tallied-long : tallyLength ≤ length tally → settingsLength ≤ length settings
+      → talliedNumber tally settings ≡ tallyNumber (tallyIn tally)
   tallied-long h k = rw (le-leb tallyLength (length tally) h, le-leb settingsLength (length settings) k)
 
 -- ---- after a refusal, whoever refuses, the lent slices, iteration and reason are as they were
