@@ -18,9 +18,20 @@ use Rattle.settings.specs.SettingsLaws.{Accepted}
 use Rattle.settings.specs.Slices.{Slices, slices, lengthsOf}
 use Rattle.decoder.specs.declared.Outcome.{Outcome}
 use Rattle.decoder.specs.declared.Outcome.the-variants.{Refused}
-use Rattle.decoder.specs.Decoder.{ruleOf, Ending, ending, resultBy, refused, callNumber, outputsOf, Decoded}
-use Rattle.decoder.specs.Run.{endOf, limitOf, EndsAs}
-use Rattle.decoder.specs.RunLaws.{never-ends, startOf, run-from-start, work-from-start}
+use Rattle.decoder.specs.Decoder.{
+  ruleOf,
+  Ending,
+  ending,
+  resultBy,
+  refused,
+  callNumber,
+  outputsOf,
+  Decoded,
+  endOf,
+  startOf,
+}
+use Rattle.decoder.specs.Run.{limitOf, EndsAs}
+use Rattle.decoder.specs.RunLaws.{never-ends, run-from-start, work-from-start}
 
 by-refusal : (n : ℕ) (e : Ending) → ((next : ℕ) → firstRefusal n next ≡ n) → refused n ≡ resultBy n e
 by-refusal zero e h = let no : _≡_ {A = ℕ} 1 0 = h 1 in absurd (omega arith)

@@ -13,8 +13,8 @@ use Rattle.settings.specs.Slices.{Slices, lengthsOf}
 use Rattle.settings.specs.SlicesLaws.{OutputsFit}
 use Rattle.decoder.specs.declared.Outcome.the-variants.{Ended}
 use Rattle.decoder.specs.declared.Reason.the-variants as reason
-use Rattle.decoder.specs.Decoder.{markAt}
-use Rattle.decoder.specs.Run.{endOf, slicesAfter, EndsAs, OneIteration, RunGoesOn}
+use Rattle.decoder.specs.Decoder.{markAt, endOf}
+use Rattle.decoder.specs.Run.{slicesAfter, EndsAs, OneIteration, RunGoesOn}
 use Rattle.decoder.specs.RunLaws.{
   run-begins,
   run-next,

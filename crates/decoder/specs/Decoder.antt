@@ -61,10 +61,6 @@ criterionBy (suc (suc (suc n))) s = Steady (s .operand)
 abbrev pub criterionOf : Settings → Criterion
 criterionOf s = criterionBy (s .criterion) s
 
--- the workspace after t iterations
-unfoldable pub after : Settings → List ℕ → List ℤ → List ℤ → ℕ → List ℤ
-after s mask llr old t = iterations (ruleOf s) (s .m) t (start (s .m) (s .ceiling) mask llr old)
-
 -- the iteration and the reason
 pub record Ending : Type 0 where
   pub iteration : ℕ
@@ -81,13 +77,35 @@ endingFrom holdsAt t (suc n) = cond (holdsAt t) (record { iteration = t; reason 
 abbrev pub endingOf : (ℕ → Bool) → ℕ → Ending
 endingOf holdsAt T = endingFrom holdsAt 1 (T - 1)
 
+-- a run from a workspace w
+module _ (s : Settings) (mask : List ℕ) (w : List ℤ) where
+  -- the workspace after t iterations, and its soft outputs
+  abbrev pub workAfter : ℕ → List ℤ
+  workAfter t = iterations (ruleOf s) (s .m) t w
+
+  abbrev pub softAfter : ℕ → ℕ → ℤ
+  softAfter t = softAt s mask (workAfter t)
+
+  abbrev pub codedSoftAfter : ℕ → ℕ → ℤ
+  codedSoftAfter t = codedSoftAt s (workAfter t)
+
+  -- whether the criterion holds then
+  abbrev pub holdsAfter : ℕ → Bool
+  holdsAfter = holds (s .m) (criterionOf s) mask softAfter codedSoftAfter
+
+  -- the iteration and the reason at which it ends
+  abbrev pub endOf : Ending
+  endOf = endingOf holdsAfter (s .limit)
+
+-- the run of a block, from the start: the workspace after t iterations, and its ending
+abbrev pub startOf : Settings → List ℕ → List ℤ → List ℤ → List ℤ
+startOf s mask llr old = start (s .m) (s .ceiling) mask llr old
+
+unfoldable pub after : Settings → List ℕ → List ℤ → List ℤ → ℕ → List ℤ
+after s mask llr old = workAfter s mask (startOf s mask llr old)
+
 unfoldable pub ending : Settings → List ℕ → List ℤ → List ℤ → Ending
-ending s mask llr old =
-    endingOf
-    (holds (s .m) (criterionOf s) mask
-    (λ t. softAt s mask (after s mask llr old t))
-    (λ t. codedSoftAt s (after s mask llr old t)))
-    (s .limit)
+ending s mask llr old = endOf s mask (startOf s mask llr old)
 
 -- the workspace as it stands at the end
 abbrev pub final : Settings → List ℕ → List ℤ → List ℤ → List ℤ

@@ -1,15 +1,14 @@
--- A run of the decoder from a workspace w: what stands there after t iterations, when it ends, and what one iteration
--- leaves. `decode` is the run from the start (`run-from-start` of RunLaws). Definitions only.
+-- A run of the decoder, step by step: what a criterion remembers and the slices hold after t iterations, what one
+-- iteration leaves, and what a run that has ended leaves. A reader of the contract of `decode` needs none of it.
 use Prim.Native.Nat.{ℕ, zero, suc, _≤_}
 use mathlib.Core.Path.{_≡_}
-use mathlib.Core.Bool.{Bool, false}
+use mathlib.Core.Bool.{false}
 use mathlib.Core.List.{List}
 use lib.IntN.{ℤ}
 use lib.ListN.{getD}
-use Rattle.sweeps.specs.Iteration.{iteration, iterations}
+use Rattle.sweeps.specs.Iteration.{iteration}
 use Rattle.criteria.specs.declared.Memory.{Memory}
 use Rattle.criteria.specs.declared.Progress.{Progress}
-use Rattle.criteria.specs.Criteria.{holds}
 use Rattle.criteria.specs.Memory.{memoryAfter, memoryNext, holdsNow}
 use Rattle.settings.specs.declared.Settings.{Settings}
 use Rattle.settings.specs.Slices.{Slices}
@@ -18,37 +17,21 @@ use Rattle.decoder.specs.Decoder.{
   ruleOf,
   softAt,
   markAt,
-  codedSoftAt,
   codedMarkAt,
   criterionOf,
   Ending,
-  endingOf,
+  workAfter,
+  softAfter,
+  codedSoftAfter,
+  holdsAfter,
   ended,
   resultOf,
   outputsOf,
 }
 
-module _ (s : Settings) (mask : List ℕ) (w : List ℤ) where
-  -- the workspace after t iterations, and its soft outputs
-  abbrev pub workAfter : ℕ → List ℤ
-  workAfter t = iterations (ruleOf s) (s .m) t w
-
-  abbrev pub softAfter : ℕ → ℕ → ℤ
-  softAfter t = softAt s mask (workAfter t)
-
-  abbrev pub codedSoftAfter : ℕ → ℕ → ℤ
-  codedSoftAfter t = codedSoftAt s (workAfter t)
-
-  -- what the criterion remembers then, and whether it holds
-  abbrev pub rememberedAfter : ℕ → Memory
-  rememberedAfter = memoryAfter (s .m) (criterionOf s) mask softAfter codedSoftAfter
-
-  abbrev pub holdsAfter : ℕ → Bool
-  holdsAfter = holds (s .m) (criterionOf s) mask softAfter codedSoftAfter
-
-  -- the iteration and the reason at which the run ends
-  abbrev pub endOf : Ending
-  endOf = endingOf holdsAfter (s .limit)
+-- what the criterion remembers after t iterations of the workspace w
+abbrev pub rememberedAfter : Settings → List ℕ → List ℤ → ℕ → Memory
+rememberedAfter s mask w = memoryAfter (s .m) (criterionOf s) mask (softAfter s mask w) (codedSoftAfter s mask w)
 
 -- the ending of a run whose criterion never holds
 abbrev pub limitOf : Settings → Ending

@@ -11,7 +11,7 @@ use native.Mathlib.Omega.{arith}
 use lib.IntN.{ℤ}
 use lib.ListN.{getD}
 use Rattle.calls.specs.LentMemoryLaws.{overwrite-at}
-use Rattle.sweeps.specs.Iteration.{iteration, start}
+use Rattle.sweeps.specs.Iteration.{iteration}
 use Rattle.sweeps.specs.IterationLaws.{WorkspaceValid, valid-iterations, length-iterations}
 use Rattle.criteria.specs.declared.Memory.{Memory}
 use Rattle.criteria.specs.declared.Progress.{Progress}
@@ -21,21 +21,24 @@ use Rattle.criteria.specs.Private.{mostRemembered, MemoryInRange}
 use Rattle.settings.specs.declared.Settings.{Settings}
 use Rattle.settings.specs.Slices.{Slices, lengthsOf}
 use Rattle.settings.specs.SlicesLaws.{OutputsFit}
-use Rattle.decoder.specs.Decoder.{ruleOf, softAt, markAt, codedMarkAt, criterionOf, after, ending}
-use Rattle.decoder.specs.EndingLaws.{ending-found, ending-last}
-use Rattle.decoder.specs.OutputLaws.{outputs-again, outputs-marks, outputs-lengths}
-use Rattle.decoder.specs.Run.{
+use Rattle.decoder.specs.Decoder.{
+  ruleOf,
+  softAt,
+  markAt,
+  codedMarkAt,
+  criterionOf,
+  after,
+  ending,
   workAfter,
   softAfter,
   codedSoftAfter,
-  rememberedAfter,
   holdsAfter,
   endOf,
-  limitOf,
-  slicesAfter,
-  OneIteration,
-  RunGoesOn,
+  startOf,
 }
+use Rattle.decoder.specs.EndingLaws.{ending-found, ending-last}
+use Rattle.decoder.specs.OutputLaws.{outputs-again, outputs-marks, outputs-lengths}
+use Rattle.decoder.specs.Run.{rememberedAfter, limitOf, slicesAfter, OneIteration, RunGoesOn}
 
 -- ---- the start
 
@@ -141,13 +144,10 @@ module _ (s : Settings) (mask : List ℕ) where
 -- ---- `decode` is the run from the start
 
 module _ (s : Settings) (mask : List ℕ) (llr old : List ℤ) where
-  abbrev pub startOf : List ℤ
-  startOf = start (s .m) (s .ceiling) mask llr old
-
-  pub run-from-start : ending s mask llr old ≡ endOf s mask startOf
-  unfolding ending after
+  pub run-from-start : ending s mask llr old ≡ endOf s mask (startOf s mask llr old)
+  unfolding ending
   run-from-start = refl
 
-  pub work-from-start : (t : ℕ) → after s mask llr old t ≡ workAfter s mask startOf t
+  pub work-from-start : (t : ℕ) → after s mask llr old t ≡ workAfter s mask (startOf s mask llr old) t
   unfolding after
   work-from-start t = refl

@@ -25,8 +25,9 @@ ghost use Rattle.decoder.specs.Decoder.{
   criterionOf,
   outputsOf,
   Decoded,
+  endOf,
 };
-ghost use Rattle.decoder.specs.Run.{OneIteration, limitOf, endOf, EndsAs};
+ghost use Rattle.decoder.specs.Run.{OneIteration, limitOf, EndsAs};
 use calls::Answer;
 use calls::Refusal;
 use criteria::Criterion;

@@ -10,7 +10,7 @@ use Rattle.polar.specs.Code.{coded}
 use Rattle.criteria.specs.Marks.{markOf}
 use Rattle.criteria.specs.CriteriaLaws.{holds-flipped}
 use Rattle.settings.specs.declared.Settings.{Settings}
-use Rattle.decoder.specs.Decoder.{softAt, codedSoftAt, criterionOf, endingOf, ending, final}
+use Rattle.decoder.specs.Decoder.{softAt, codedSoftAt, criterionOf, endingOf, after, ending, final}
 use Rattle.independence.specs.Verdict.{verdict, flippedMark}
 use Rattle.independence.specs.Flips.{Runs, soft-flips, codedSoft-flips}
 
@@ -32,7 +32,7 @@ verdict-flipped true (suc (suc (suc n))) = refl
 module _ (s : Settings) (mask : List ℕ) (u : ℕ → Bool) {llr llr′ old old′ : List ℤ}
     (runs : Runs (s .m) mask u llr llr′ old old′) where
   pub ending-same : ending s mask llr′ old′ ≡ ending s mask llr old
-  unfolding ending
+  unfolding ending after
   ending-same =
       ap (λ (held : ℕ → Bool). endingOf held (s .limit))
       (fun-ext

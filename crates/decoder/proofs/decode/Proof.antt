@@ -12,8 +12,7 @@ use Rattle.settings.specs.Slices.{Slices, slices, lengthsOf}
 use Rattle.settings.specs.SlicesLaws.{OutputsFit, outputs-fit, fit-with}
 use Rattle.sweeps.specs.Iteration as iteration
 use Rattle.sweeps.specs.IterationLaws.{WorkspaceValid}
-use Rattle.decoder.specs.Decoder.{ruleOf, callNumber}
-use Rattle.decoder.specs.RunLaws.{startOf}
+use Rattle.decoder.specs.Decoder.{ruleOf, callNumber, startOf}
 use Rattle.decoder.proofs.Deciding.{operand-le, decoded-refused, begun-valid, decoded-run, decoded-limit}
 use borrow.Author.Needs.{needs}
 use Rattle.decoder.proofs.decode.Statement.{statement}
