@@ -24,8 +24,8 @@ withSampleSign (inf s) size = cond s (neg size) size
 withSampleSign (fin s zero e) size = fin false 0 (pos 0)
 withSampleSign (fin s (suc m) e) size = cond s (neg size) size
 
--- Gaussian: one 32-bit product, rounded once. Flipping: the weight with the sample's sign. Erasing: the ceiling, C * 2
--- ^ 0, with it
+-- Gaussian: one 32-bit product, rounded once. Flipping: the weight with the sample's sign. Erasing: the ceiling with
+-- it, C * 2 ^ 0
 abbrev pub valueOf : ℕ → Channel → Float → Float
 valueOf C (Gaussian factor) x = mul binary32 x factor
 valueOf C (Flipping weight) x = withSampleSign x weight
