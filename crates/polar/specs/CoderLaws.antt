@@ -1,7 +1,7 @@
 -- What the coder and the read-out do together: coding twice returns the message, coding is linear, and the read-out of
 -- u is the message.
 use Prim.Native.Nat.{ℕ, zero, suc, _+_, _^_, _≤_, _<_}
-use mathlib.Core.Path.{_≡_, refl, sym, ap, _∙_}
+use mathlib.Core.Path.{_≡_, refl, sym, ap, ap₂, _∙_}
 use mathlib.Core.Bool.{Bool, true}
 use mathlib.Core.List.{List, [], _∷_, _++_, append-nil}
 use native.Mathlib.Nat.{add-zero}
@@ -16,8 +16,9 @@ use Rattle.calls.specs.EveryLaws.{every-of}
 use Rattle.calls.specs.LentMemory.{overwrite}
 use Rattle.calls.specs.LentMemoryLaws.{overwrite-same}
 use Rattle.polar.specs.declared.Code.{Code}
-use Rattle.calls.specs.Bits.{xor, byteOf}
-use Rattle.polar.specs.Mask.{byKind}
+use Rattle.calls.specs.Bits.{xor, byteOf, bitOf}
+use Rattle.polar.specs.Mask.{byKind, isInformation}
+use Rattle.polar.specs.MaskLaws.{kind-information}
 use Rattle.polar.specs.Code.{
   informationCount,
   uBit,
@@ -69,16 +70,21 @@ message-passes h = simp (le-leb _ _ (h .long), h .bits)
 
 -- ---- coding twice, with every position an information position
 
-module _ (code : Code) (mask : List ℕ) (all : (i : ℕ) → i < 2 ^ code .m → getD mask i 0 ≡ 0) where
+module _ (code : Code) (mask : List ℕ) (all : (i : ℕ) → i < 2 ^ code .m → isInformation (getD mask i 0) ≡ true) where
   abbrev m : ℕ
   m = code .m
 
   count-all : (n : ℕ) → n ≤ 2 ^ m → informationCount mask n ≡ n
   count-all zero h = refl
-  count-all (suc n) h = rw (count-all n (omega arith), all n (omega arith)) (add-one n)
+  count-all (suc n) h =
+      ap₂ (λ (a b : ℕ). a + b) (count-all n (omega arith))
+      (kind-information 1 (λ bit. 0) (getD mask n 0) (all n (omega arith)))
+      ∙ add-one n
 
   u-all : (message : List ℕ) (i : ℕ) → i < 2 ^ m → uBit mask message i ≡ bitsOf message i
-  u-all message i h = rw (all i h, count-all i (omega arith))
+  u-all message i h =
+      kind-information (bitOf (getD message (informationCount mask i) 0)) (λ bit. bit) (getD mask i 0) (all i h)
+      ∙ rw (count-all i (omega arith))
 
   module _ (message old again : List ℕ) (accepted : encodeNumber code mask message (length old) ≡ 0)
       (room : 2 ^ m ≤ length again) where
