@@ -48,3 +48,7 @@ counted-in-turn = refl
 
 pub counted-over : countsOver (others (ended 7 1 ∷ refused 10 ∷ refused 15 ∷ ended 200 2 ∷ [])) ≡ tally 3 1 1 1 207
 counted-over = refl
+
+-- a reason other than 1 and 2 counts as neither, so a tally that met one is refused
+pub another-reason : tallyNumber (counted none (ended 7 3)) ≡ 15
+another-reason = refl

@@ -13,7 +13,7 @@ single (ended iteration reason) =
     record {
       blocks = 1;
       «by_criterion» = cond (eqb reason 1) 1 0;
-      «by_limit» = cond (eqb reason 1) 0 1;
+      «by_limit» = cond (eqb reason 2) 1 0;
       refusals = 0;
       iterations = iteration;
     }

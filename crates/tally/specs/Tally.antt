@@ -32,7 +32,8 @@ tallyNumber t =
     (check (eqb (t .blocks) (endings t + t .refusals)) 15
     (check (between (endings t) (mostIterations * endings t) (t .iterations)) 15 0))
 
--- the tally with one answer of the decoder counted: a refusal is a block with no iterations
+-- the tally with one answer of the decoder counted: a refusal is a block with no iterations, an ending counts by its
+-- own reason, 1 or 2
 abbrev pub counted : Tally → Result → Tally
 counted t (refused number) =
     record {
@@ -45,8 +46,8 @@ counted t (refused number) =
 counted t (ended iteration reason) =
     record {
       blocks = t .blocks + 1;
-      «by_criterion» = cond (eqb reason 1) (t .«by_criterion» + 1) (t .«by_criterion»);
-      «by_limit» = cond (eqb reason 1) (t .«by_limit») (t .«by_limit» + 1);
+      «by_criterion» = t .«by_criterion» + cond (eqb reason 1) 1 0;
+      «by_limit» = t .«by_limit» + cond (eqb reason 2) 1 0;
       refusals = t .refusals;
       iterations = t .iterations + iteration;
     }
