@@ -1,8 +1,13 @@
 // The report program: one text from standard input, its report to standard output.
-// It sees `report_text`, the longest text of `report_input`, and the C library's read and write. What it prints of what
-// it read is the promise of `report_text::report`.
+// It sees `report_text`, the longest text of `report_input`, and the C library's read and write.
+// Proved: it ends, and stays within its memory; a read that comes later leaves the bytes of the earlier ones; the bytes
+// handed to write are the report of the bytes in memory, by the promise of `report_text::report`.
+// By inspection and test: that the bytes in memory are those of standard input, in their order and to its end (of the
+// bytes that C's read brings its contract says nothing), that what is handed to C's write arrives, and the lines on
+// standard error. The tests are the texts with stored outputs and the comparison with the second implementation.
+ghost use mathlib.Core.Path.{_≡_};
 ghost use Prim.Native.Nat.{_-_, _≤_};
-ghost use lib.ListN.{length};
+ghost use lib.ListN.{length, take};
 ghost use Rattle.io.specs.Counts.{Counts};
 ghost use Rattle.report_program.specs.Reads.{GotAtMost};
 use libc::STDERR_FILENO;
@@ -17,10 +22,11 @@ pub enum Got {
     Failed,
 }
 
-// One read behind the first n bytes.
+// One read behind the first n bytes, which it leaves as they were.
 fn read_behind(text: &mut [u8], n: usize) -> Got
     requires { ⌜ n ≤ length (now text) ⌝ }
     ensures { λ r. ⌜ GotAtMost (length (now (text .entry)) - n) r ⌝ }
+    ensures { λ _. ⌜ take n (now (text .exit)) ≡ take n (now (text .entry)) ⌝ }
 {
     let got = libc::read(STDIN_FILENO, &mut text[n..]);
     if got < 0 {

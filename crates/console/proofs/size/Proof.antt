@@ -1,6 +1,6 @@
--- `size` is safe: a 16-bit number fits 32 bits, and its size fits 16.
+-- `size` meets its contract: a 16-bit number fits 32 bits, and its size fits 16.
 use Prim.Native.Nat.{_≤_}
-use mathlib.Core.Path.{ap, _∙_}
+use mathlib.Core.Path.{_≡_, ap, _∙_}
 use native.Mathlib.Omega.{arith}
 use borrow.Author.Needs.{needs}
 use lib.IntN.{natAbs}
@@ -15,15 +15,20 @@ cast-size c = widened-fits (c .args .value) (c .fits .value)
 size-requires : tie.Need-size-requires
 size-requires c κs = search needs
 
+module _ (c : tie.After-size) where
+  abbrev start : tie.Start
+  start = c .before
+
+  kept : c .size .result ≡ natAbs (start .args .value)
+  kept = c .size .ensures ∙ ap natAbs (widened (start .args .value) (start .fits .value))
+
 cast-result : tie.Need-cast-result
 cast-result c =
-    let z = c .before .args .value in
-    let f = c .before .fits .value in
-    let small : natAbs z ≤ 32768 = natAbs-le z (f .sfits) in
-    omega (arith, c .size .ensures ∙ ap natAbs (widened z f))
+    let small : natAbs (start c .args .value) ≤ 32768 = natAbs-le (start c .args .value) (start c .fits .value .sfits) in
+    omega (arith, kept c)
 
 returns : tie.Need-returns
-returns c = search needs
+returns c = kept c
 
 pub size-spec : {M : Type 1} → statement M
 size-spec = tie.close (tie.spec cast-size size-requires cast-result returns)

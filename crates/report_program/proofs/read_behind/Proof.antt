@@ -1,13 +1,14 @@
 -- `read_behind` meets its contract.
 use Prim.Native.Nat.{ℕ, _-_, _≤_}
 use native.Mathlib.Nat.{le-trans}
-use mathlib.Core.List.{List}
+use mathlib.Core.List.{List, _++_}
 use mathlib.Core.Path.{_≡_}
 use mathlib.Core.Bool.{false, true≢false}
 use native.Mathlib.Omega.{arith}
 use lib.Dec.{T}
 use lib.IntN.{ℤ, pos, negsuc, natAbs}
 use lib.ListN.{length, take, drop, length-take}
+use lib.Seq.{length-take-le, take-at}
 use lib.Signed.{ltZ, nonNeg, natAbs-le}
 use mir.Syntax.{w64}
 use mir.Val.{toZ, ofZ}
@@ -26,6 +27,11 @@ moved-size most (negsuc k) moved e = absurd (true≢false e)
 
 part-le : (n : ℕ) (l : List ℕ) → length (take (length l - n) (drop n l)) ≤ length l - n
 part-le n l = omega (arith, length-take (length l - n) (drop n l))
+
+-- what the slice holds after a read: its first n bytes, and whatever was read behind them
+first-kept : (c : tie.Start) (behind : List ℕ)
+    → take (c .args .n) (take (c .args .n) (c .args .text .now) ++ behind) ≡ take (c .args .n) (c .args .text .now)
+first-kept c behind = take-at (take (c .args .n) (c .args .text .now)) behind (c .args .n) (length-take-le _ _ (c .pre))
 
 -- the number that the call gave, where it is not below zero
 module _ (c : tie.Else1) where
@@ -65,13 +71,13 @@ same-length : tie.Need-same-length
 same-length c = search needs
 
 returns : tie.Need-returns
-returns c = search needs
+returns c = (search needs, first-kept (c .before .before .before .before .before .before) _)
 
 same-length-2 : tie.Need-same-length-2
 same-length-2 c = search needs
 
 returns-2 : tie.Need-returns-2
-returns-2 c = rw (kept c) (size c .1)
+returns-2 c = (rw (kept c) (size c .1), first-kept (c .before .before .before .before .before .before) _)
 
 pub read-behind-spec : {M : Type 1} → statement M
 read-behind-spec =

@@ -35,7 +35,7 @@ module _ (c : tie.After-known-told Inv-loop μ-loop) where
   room = let loop = turn reading .loop in length (loop .text) - loop .n
 
   more : c .before .got .given .0 .0 ≤ room
-  more = subst (GotAtMost room) (c .before .got .given .1) (reading .before .read-behind .ensures)
+  more = subst (GotAtMost room) (c .before .got .given .1) (reading .before .read-behind .ensures .0)
 
 loop-holds : tie.Need-loop-holds Inv-loop μ-loop
 loop-holds c = (omega arith, refl)
