@@ -2,7 +2,7 @@
 -- u is the message.
 use Prim.Native.Nat.{ℕ, zero, suc, _+_, _^_, _≤_, _<_}
 use mathlib.Core.Path.{_≡_, refl, sym, ap, ap₂, _∙_}
-use mathlib.Core.Bool.{Bool, true}
+use mathlib.Core.Bool.{Bool, true, false}
 use mathlib.Core.List.{List, [], _∷_, _++_, append-nil}
 use native.Mathlib.Nat.{add-zero}
 use native.Mathlib.Numerals.{add-one}
@@ -10,8 +10,9 @@ use native.Mathlib.Omega.{arith}
 use lib.Dec.{leb}
 use lib.ListN.{length, getD, take}
 use lib.Seq.{take-suc, getD-take}
-use borrow.Author.Tests.{le-leb}
+use borrow.Author.Tests.{le-leb, leb-true}
 use Rattle.calls.specs.Bounds.{largestM}
+use Rattle.calls.specs.Numbers.{check}
 use Rattle.calls.specs.EveryLaws.{every-of}
 use Rattle.calls.specs.LentMemory.{overwrite}
 use Rattle.calls.specs.LentMemoryLaws.{overwrite-same}
@@ -68,46 +69,60 @@ with-room h other long = record {
 message-passes : {message : List ℕ} {K : ℕ} → MessageAccepted message K → messageNumber message K ≡ 0
 message-passes h = simp (le-leb _ _ (h .long), h .bits)
 
--- ---- coding twice, with every position an information position
+-- ---- coding a block again, with the same mask
 
-module _ (code : Code) (mask : List ℕ) (all : (i : ℕ) → i < 2 ^ code .m → isInformation (getD mask i 0) ≡ true) where
+count-le : (mask : List ℕ) (n : ℕ) → informationCount mask n ≤ n
+count-le mask zero = omega arith
+count-le mask (suc n) = one-more (getD mask n 0) (count-le mask n)
+  where
+    one-more : (b : ℕ) → informationCount mask n ≤ n → informationCount mask n + byKind b 1 (λ bit. 0) ≤ suc n
+    one-more zero h = omega arith
+    one-more (suc b) h = omega arith
+
+module _ (code : Code) (mask message old : List ℕ) (accepted : encodeNumber code mask message (length old) ≡ 0) where
   abbrev m : ℕ
   m = code .m
 
-  count-all : (n : ℕ) → n ≤ 2 ^ m → informationCount mask n ≡ n
-  count-all zero h = refl
-  count-all (suc n) h =
-      ap₂ (λ (a b : ℕ). a + b) (count-all n (omega arith))
-      (kind-information 1 (λ bit. 0) (getD mask n 0) (all n (omega arith)))
-      ∙ add-one n
+  abbrev first : List ℕ
+  first = encodeBlock code mask message old
 
-  u-all : (message : List ℕ) (i : ℕ) → i < 2 ^ m → uBit mask message i ≡ bitsOf message i
-  u-all message i h =
-      kind-information (bitOf (getD message (informationCount mask i) 0)) (λ bit. bit) (getD mask i 0) (all i h)
-      ∙ rw (count-all i (omega arith))
+  parts : CodeAccepted code mask (length old) × MessageAccepted message (informationCount mask (2 ^ m))
+  parts = encode-accepted code mask message (length old) accepted
 
-  module _ (message old again : List ℕ) (accepted : encodeNumber code mask message (length old) ≡ 0)
-      (room : 2 ^ m ≤ length again) where
-    abbrev first : List ℕ
-    first = encodeBlock code mask message old
+  written : first ≡ overwrite (2 ^ m) (λ i. byteOf (coded m (uBit mask message) i)) old
+  written = rw accepted
 
-    parts : CodeAccepted code mask (length old) × MessageAccepted message (informationCount mask (2 ^ m))
-    parts = encode-accepted code mask message (length old) accepted
+  bits : Bits (2 ^ m) first
+  bits = bits-written (2 ^ m) (coded m (uBit mask message)) old first (parts .0 .room-long) written
 
-    written : first ≡ overwrite (2 ^ m) (λ i. byteOf (coded m (uBit mask message) i)) old
-    written = rw accepted
+  by-room : (room : ℕ) (long : Bool) → leb (2 ^ m) room ≡ long → encodeNumber code mask first room ≡ check long 7 0
+  by-room room true e =
+      let few = count-le mask (2 ^ m) in
+      rw (code-passes (with-room (parts .0) room (leb-true _ _ e)))
+      (message-passes {message = first} {K = informationCount mask (2 ^ m)} record {
+        long = omega (arith, few, bits .long);
+        bits = all-bits (informationCount mask (2 ^ m)) first (λ i l. bits .at i (omega (arith, few)));
+      })
+  by-room room false e =
+      simp (le-leb 1 _ (parts .0 .some), le-leb _ largestM (parts .0 .size), le-leb _ _ (parts .0 .mask-long), e)
 
-    bits : Bits (2 ^ m) first
-    bits = bits-written (2 ^ m) (coded m (uBit mask message)) old first (parts .0 .room-long) written
+  -- the coder takes its own block for a message: it refuses it exactly where the slice for the second block is too short
+  pub encode-again : (room : ℕ) → encodeNumber code mask first room ≡ check (leb (2 ^ m) room) 7 0
+  encode-again room = by-room room (leb (2 ^ m) room) refl
 
-    pub encode-again : encodeNumber code mask first (length again) ≡ 0
-    encode-again =
-        let K : informationCount mask (2 ^ m) ≡ 2 ^ m = count-all (2 ^ m) (omega arith) in
-        rw (code-passes (with-room (parts .0) (length again) room))
-        (message-passes {message = first} {K = informationCount mask (2 ^ m)} record {
-          long = omega (arith, bits .long);
-          bits = all-bits (informationCount mask (2 ^ m)) first (λ i l. bits .at i (omega arith));
-        })
+  -- with every position an information position coding twice returns the message
+  module _ (all : (i : ℕ) → i < 2 ^ m → isInformation (getD mask i 0) ≡ true) where
+    count-all : (n : ℕ) → n ≤ 2 ^ m → informationCount mask n ≡ n
+    count-all zero h = refl
+    count-all (suc n) h =
+        ap₂ (λ (a b : ℕ). a + b) (count-all n (omega arith))
+        (kind-information 1 (λ bit. 0) (getD mask n 0) (all n (omega arith)))
+        ∙ add-one n
+
+    u-all : (message : List ℕ) (i : ℕ) → i < 2 ^ m → uBit mask message i ≡ bitsOf message i
+    u-all message i h =
+        kind-information (bitOf (getD message (informationCount mask i) 0)) (λ bit. bit) (getD mask i 0) (all i h)
+        ∙ rw (count-all i (omega arith))
 
     back : (i : ℕ) → i < 2 ^ m → byteOf (coded m (uBit mask first) i) ≡ getD message i 0
     back i h =
@@ -119,8 +134,11 @@ module _ (code : Code) (mask : List ℕ) (all : (i : ℕ) → i < 2 ^ code .m �
         (bits-at (informationCount mask (2 ^ m)) message (parts .1 .bits) i (rw (count-all (2 ^ m) (omega arith)) h))
 
     -- the coder, applied to what it wrote, writes the message
-    pub encode-twice : encodeBlock code mask first again ≡ overwrite (2 ^ m) (λ i. getD message i 0) again
-    encode-twice = rw encode-again (overwrite-same (2 ^ m) _ (λ i. getD message i 0) again (λ i h r. back i h))
+    pub encode-twice : (again : List ℕ) → 2 ^ m ≤ length again
+        → encodeBlock code mask first again ≡ overwrite (2 ^ m) (λ i. getD message i 0) again
+    encode-twice again room =
+        rw (encode-again (length again), le-leb _ _ room)
+        (overwrite-same (2 ^ m) _ (λ i. getD message i 0) again (λ i h r. back i h))
 
 -- ---- linear: the exclusive-or of two messages codes to that of their blocks
 

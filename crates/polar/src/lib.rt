@@ -160,8 +160,8 @@ fn message_refusal(message: &[u8], count: usize) -> Answer
     Answer::Done
 }
 
-// Every test of the coder. It writes nothing.
-fn encode_refusal(code: Code, mask: &[u8], message: &[u8], room: usize) -> Answer
+// Every test of the coder. It writes nothing. Offered to the crates above, which test before they write.
+pub fn encode_refusal(code: Code, mask: &[u8], message: &[u8], room: usize) -> Answer
     ensures { λ r. ⌜ numberOf r ≡ encodeNumber code (now (mask .entry)) (now (message .entry)) room ⌝ }
 {
     match code_refusal(code, mask, room) {

@@ -1,20 +1,22 @@
--- What `encode_twice` promises where every position is an information position. Definitions only.
-use Prim.Native.Nat.{ℕ, _^_, _<_}
-use mathlib.Core.Path.{_≡_}
-use mathlib.Core.Bool.{true}
+-- Coding twice: the number and the two blocks. Definitions only.
+use Prim.Native.Nat.{ℕ}
 use mathlib.Core.List.{List}
-use lib.Dec.{leb}
-use lib.ListN.{length, getD}
-use Rattle.calls.specs.Numbers.{check, firstRefusal}
+use lib.ListN.{length}
+use Rattle.calls.specs.Numbers.{firstRefusal}
+use Rattle.calls.specs.LentMemory.{unlessRefused}
 use Rattle.polar.specs.declared.Code.{Code}
-use Rattle.polar.specs.Mask.{isInformation}
-use Rattle.polar.specs.Code.{encodeNumber}
+use Rattle.polar.specs.Code.{encodeNumber, encodeBlock}
 
--- each of the first 2^m positions is an information position
-abbrev pub AllInformation : Code → List ℕ → Type 0
-AllInformation code mask = (i : ℕ) → i < 2 ^ code .m → isInformation (getD mask i 0) ≡ true
+module _ (code : Code) (mask message block again : List ℕ) where
+  -- the first call's number, or else that of the second, whose message is the first call's block
+  abbrev pub twiceNumber : ℕ
+  twiceNumber =
+      firstRefusal (encodeNumber code mask message (length block))
+      (encodeNumber code mask (encodeBlock code mask message block) (length again))
 
--- the first call's refusal; else 7 exactly where the second slice is shorter than 2^m
-abbrev pub twiceNumber : Code → List ℕ → List ℕ → List ℕ → List ℕ → ℕ
-twiceNumber code mask message block again =
-    firstRefusal (encodeNumber code mask message (length block)) (check (leb (2 ^ code .m) (length again)) 7 0)
+  -- both blocks; after a refusal of either call both slices as they were
+  abbrev pub twiceFirst : List ℕ
+  twiceFirst = unlessRefused twiceNumber (encodeBlock code mask message block) block
+
+  abbrev pub twiceSecond : List ℕ
+  twiceSecond = unlessRefused twiceNumber (encodeBlock code mask (encodeBlock code mask message block) again) again

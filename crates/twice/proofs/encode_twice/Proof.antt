@@ -1,59 +1,47 @@
--- `encode_twice` meets its contract: by the two calls' own promises, and the law that coding twice returns the message.
-use Prim.Native.Nat.{ℕ, _^_}
-use mathlib.Core.Path.{_≡_, refl, sym, ap, _∙_}
+-- `encode_twice` meets its contract: by the promises of its tests and of the two calls.
+use Prim.Native.Nat.{ℕ}
+use mathlib.Core.Path.{_≡_, sym, ap, _∙_}
 use mathlib.Core.List.{List}
 use borrow.Author.Needs.{needs}
 use denote.Ref.{now}
-use lib.ListN.{length, getD}
+use lib.ListN.{length}
 use Rattle.calls.specs.Numbers.{numberOf}
-use Rattle.calls.specs.NumberLaws.{refused-first, refused-keeps}
-use Rattle.calls.specs.LentMemory.{overwrite}
+use Rattle.calls.specs.NumberLaws.{refused-keeps}
 use Rattle.polar.specs.declared.Code.{Code}
-use Rattle.polar.specs.Code.{encodeNumber}
-use Rattle.twice.specs.Twice.{AllInformation, twiceNumber}
-use Rattle.twice.specs.TwiceLaws.{kept, second-number, second-block}
+use Rattle.polar.specs.Code.{encodeNumber, encodeBlock}
+use Rattle.twice.specs.Twice.{twiceNumber}
+use Rattle.twice.specs.TwiceLaws.{number-by-lengths, both-accepted}
 use Rattle.twice.proofs.encode_twice.Statement.{statement}
 use Rattle.twice.proofs.encode_twice.Tie as tie
 
--- what the function is handed, seen from behind its first call
-module _ (c : tie.After-encode) where
+module _ (c : tie.After-refusal) where
   abbrev start : tie.Start
-  start = c .before .before .before .before .before .before
+  start = c .before .before .before .before .before
 
-  abbrev code : Code
-  code = start .args .code
+  abbrev number : ℕ
+  number =
+      let a = start .args in twiceNumber (a .code) (now (a .mask)) (now (a .message)) (now (a .block)) (now (a .again))
 
-  abbrev mask : List ℕ
-  mask = now (start .args .mask)
+  tested : number ≡ numberOf (c .refusal .result)
+  tested =
+      let a = start .args in
+      number-by-lengths (a .code) (now (a .mask)) (now (a .message)) (now (a .block)) (now (a .again))
+      ∙ sym (c .refusal .ensures)
 
-  abbrev message : List ℕ
-  message = now (start .args .message)
+module _ (c : tie.After-enum-told) where
+  passed : number (c .before .before) ≡ 0
+  passed = tested (c .before .before) ∙ ap numberOf (c .enum-told .given .1)
 
-  abbrev block : List ℕ
-  block = now (start .args .block)
+  accepted : let a = start (c .before .before) .args in
+      encodeNumber (a .code) (now (a .mask))
+      (encodeBlock (a .code) (now (a .mask)) (now (a .message)) (now (a .block))) (length (now (a .again)))
+      ≡ 0
+  accepted =
+      let a = start (c .before .before) .args in
+      both-accepted (a .code) (now (a .mask)) (now (a .message)) (now (a .block)) (now (a .again)) passed .1
 
-  abbrev again : List ℕ
-  again = now (start .args .again)
-
-module _ (c : tie.After-encode2) where
-  abbrev told : tie.After-enum-told
-  told = c .before .before .before
-
-  abbrev first : tie.After-encode
-  first = told .before .before .before .before
-
-  passed : encodeNumber (code first) (mask first) (message first) (length (block first)) ≡ 0
-  passed = sym (first .encode .ensures .0) ∙ ap numberOf (told .enum-told .given .1)
-
-  number : AllInformation (code first) (mask first)
-      → numberOf (c .encode2 .result)
-      ≡ twiceNumber (code first) (mask first) (message first) (block first) (again first)
-  number all =
-      (rw (first .encode .ensures .1) at (c .encode2 .ensures .0))
-      ∙ second-number (code first) (mask first) (message first) (block first) (again first) all passed
-
-encode-requires : tie.Need-encode-requires
-encode-requires c κs = search needs
+refusal-requires : tie.Need-refusal-requires
+refusal-requires c κs = search needs
 
 enum-known-refusal : tie.Need-enum-known-refusal
 enum-known-refusal c = search needs
@@ -61,44 +49,36 @@ enum-known-refusal c = search needs
 enum-told : tie.Need-enum-told
 enum-told c = search needs
 
+encode-requires : tie.Need-encode-requires
+encode-requires c κs = search needs
+
 encode-requires-2 : tie.Need-encode-requires-2
 encode-requires-2 c κs = search needs
+
+returns : tie.Need-returns
+returns c =
+    let r = c .before .refusal2 .given in
+    let refused = tested (c .before .before .before) ∙ ap numberOf (r .1) in (
+      sym refused,
+      (rw refused (sym (refused-keeps (r .0 .0) _ _)), rw refused (sym (refused-keeps (r .0 .0) _ _))),
+    )
 
 same-length : tie.Need-same-length
 same-length c = search needs
 
-returns : tie.Need-returns
-returns c =
-    let r = c .before .refusal .given in
-    let before = c .before .before .before .before .before in
-    let refused = sym (before .encode .ensures .0) ∙ ap numberOf (r .1) in
-    let returned = overwrite (2 ^ code before .m) (λ i. getD (message before) i 0) (again before) in (
-      λ all. rw refused (sym (refused-first (r .0 .0) _)),
-      (
-        λ all done. rw done at (refused-keeps (r .0 .0) (again before) returned),
-        (before .encode .ensures .1, λ h. refl),
-      ),
-    )
-
 same-length-2 : tie.Need-same-length-2
 same-length-2 c = search needs
-
-same-length-3 : tie.Need-same-length-3
-same-length-3 c = search needs
 
 returns-2 : tie.Need-returns-2
 returns-2 c =
     let second = c .before .before in
-    let before = first second in
-    let wrote = rw (before .encode .ensures .1) at (second .encode2 .ensures .1) in
-    let law = second-block (code before) (mask before) (message before) (block before) (again before) in (
-      number second,
+    let first = second .before .before .before .before .before in
+    let told = first .before .before in
+    let done = passed told in (
+      rw (first .encode .ensures .1) at (second .encode2 .ensures .0) ∙ accepted told ∙ sym done,
       (
-        λ all done. wrote ∙ law all (passed second) (sym (number second all) ∙ done),
-        (
-          before .encode .ensures .1,
-          λ h. second .encode2 .ensures .1 ∙ kept _ _ _ (λ z. h (second .encode2 .ensures .0 ∙ z)),
-        ),
+        rw done (first .encode .ensures .1),
+        rw done (rw (first .encode .ensures .1) at (second .encode2 .ensures .1)),
       ),
     )
 
@@ -106,12 +86,12 @@ pub encode-twice-spec : {M : Type 1} → statement M
 encode-twice-spec =
     tie.close
     (tie.spec
-    encode-requires
+    refusal-requires
     enum-known-refusal
     enum-told
+    encode-requires
     encode-requires-2
-    same-length
     returns
+    same-length
     same-length-2
-    same-length-3
     returns-2)
