@@ -1,5 +1,5 @@
--- Document 01, "Numbers by who causes them": the number of each refusal, and which of several is returned. Definitions
--- only.
+-- Document 01, "Numbers by who causes them": the number of each refusal, and which of several is returned.
+-- Definitions only.
 use Prim.Native.Nat.{ℕ, zero, suc}
 use mathlib.Core.Bool.{Bool, true, false, _&&_}
 use lib.Dec.{leb}

@@ -1,5 +1,5 @@
--- The sign of a whole number: where it is below zero, and the number with its sign turned where a bit is 1. Definitions
--- only.
+-- The sign of a whole number: where it is below zero, and the number with its sign turned where a bit is 1.
+-- Definitions only.
 use mathlib.Core.Bool.{Bool, true, false}
 use lib.IntN.{ℤ, pos, negsuc, negℤ}
 

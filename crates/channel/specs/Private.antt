@@ -1,5 +1,5 @@
 -- Definitions for the contracts of private functions: what the front's own steps compute, in the shape of the code. A
--- reader of the front's contract needs none of it. Definitions only.
+-- reader of the front's contract needs none of it.
 use Prim.Native.Nat.{ℕ, zero, suc, _+_, _*_, _^_}
 use mathlib.Core.Bool.{cond}
 use lib.IntN.{ℤ, pos, negℤ}

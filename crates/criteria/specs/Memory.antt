@@ -1,6 +1,7 @@
 -- What a criterion remembers between iterations: the iterations so far, and under criterion 3 how many of the last ones
 -- kept the marks. `memoryAfter` says what it is after t iterations; `memoryNext` and `holdsNow` give it, and whether
--- the criterion holds, from what it was and what one iteration more leaves. Definitions only.
+-- the criterion holds, from what it was and what one iteration more leaves. A reader of the contract of `decode`, which
+-- cites `holds`, needs none of it.
 use Prim.Native.Nat.{ℕ, zero, suc, _+_, _-_, _^_}
 use mathlib.Core.Bool.{Bool, false, cond}
 use mathlib.Core.List.{List}

@@ -1,5 +1,6 @@
 pub mod Verdict
 pub mod Front
+pub mod Alike
 pub mod Flips
 pub mod Outcome
 pub mod Runs

@@ -1,4 +1,5 @@
--- What one read of standard input may give: a failure, or as many bytes as there was room for. Definitions only.
+-- For the contract of a private function: what one read of standard input may give, a failure, or as many bytes as
+-- there was room for.
 use Prim.Native.Nat.{ℕ, _≤_}
 use Rattle.report_program.specs.declared.Got.{Got}
 use Rattle.report_program.specs.declared.Got.the-variants.{Bytes, Failed}

@@ -1,4 +1,4 @@
--- For the contracts of private functions: the values that slices hold, and the first lines. Definitions only.
+-- For the contracts of private functions: the values that slices hold, and the first lines.
 use Prim.Native.Nat.{ℕ}
 use mathlib.Core.List.{List, [], _∷_, _++_}
 use lib.IntN.{ℤ, pos}

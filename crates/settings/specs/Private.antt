@@ -1,4 +1,4 @@
--- A part of the decoder's number that a private function gives. Definitions only.
+-- For the contract of a private function: a part of the decoder's number.
 use Prim.Native.Nat.{ℕ, _^_}
 use mathlib.Core.List.{List}
 use lib.Dec.{leb}

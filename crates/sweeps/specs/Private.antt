@@ -1,6 +1,6 @@
 -- Definitions for the contracts of private functions: what the steps of the code compute, in the shape of the code.
 -- Both sweeps take their steps by one formula over two rows, in flat places of the workspace. A reader of the contracts
--- of `begin` and `iterate` needs none of it. Definitions only.
+-- of `begin` and `iterate` needs none of it.
 use Prim.Native.Nat.{ℕ, _+_, _-_, _*_, _^_, _≤_, _<_}
 use mathlib.Core.Path.{_≡_}
 use mathlib.Core.Bool.{cond}

@@ -111,12 +111,10 @@ pub extern "C" fn vedrogne_decode(
 ) -> u32
     ensures { λ r. ⌜ DecodeCall (settingsListNumber (now (settings .entry)))
         (now (settings .entry)) (now (mask .entry)) (now (llr .entry))
-        (lent (slices (now (soft .entry)) (now (mark .entry))
-        (now («coded_soft» .entry)) (now («coded_mark» .entry)) (now (work .entry)))
-        (now (iterations .entry)) (now (reason .entry)))
-        (lent (slices (now (soft .exit)) (now (mark .exit))
-        (now («coded_soft» .exit)) (now («coded_mark» .exit)) (now (work .exit)))
-        (now (iterations .exit)) (now (reason .exit)))
+        (lent (slices (now (soft .entry)) (now (mark .entry)) (now («coded_soft» .entry)) (now («coded_mark» .entry))
+        (now (work .entry))) (now (iterations .entry)) (now (reason .entry)))
+        (lent (slices (now (soft .exit)) (now (mark .exit)) (now («coded_soft» .exit)) (now («coded_mark» .exit))
+        (now (work .exit))) (now (iterations .exit)) (now (reason .exit)))
         r ⌝ }
 {
     if settings.len() < SETTINGS_LENGTH {
