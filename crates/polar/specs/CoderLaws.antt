@@ -106,7 +106,8 @@ module _ (code : Code) (mask message old : List ℕ) (accepted : encodeNumber co
   by-room room false e =
       simp (le-leb 1 _ (parts .0 .some), le-leb _ largestM (parts .0 .size), le-leb _ _ (parts .0 .mask-long), e)
 
-  -- the coder takes its own block for a message: it refuses it exactly where the slice for the second block is too short
+  -- the coder takes its own block for a message, and refuses it exactly where the slice for the second block is too
+  -- short
   pub encode-again : (room : ℕ) → encodeNumber code mask first room ≡ check (leb (2 ^ m) room) 7 0
   encode-again room = by-room room (leb (2 ^ m) room) refl
 

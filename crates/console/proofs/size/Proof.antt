@@ -24,7 +24,8 @@ module _ (c : tie.After-size) where
 
 cast-result : tie.Need-cast-result
 cast-result c =
-    let small : natAbs (start c .args .value) ≤ 32768 = natAbs-le (start c .args .value) (start c .fits .value .sfits) in
+    let z = start c .args .value in
+    let small : natAbs z ≤ 32768 = natAbs-le z (start c .fits .value .sfits) in
     omega (arith, kept c)
 
 returns : tie.Need-returns
