@@ -1,11 +1,11 @@
 -- Document 01, "The report's text": what an input means, in the order of the section's sentences. Definitions only.
-use Prim.Native.Nat.{ℕ, zero, suc, _+_, _*_, _^_, min}
+use Prim.Native.Nat.{ℕ, zero, suc, _^_, min}
 use mathlib.Core.Path.{_≡_}
 use mathlib.Core.Bool.{cond}
-use mathlib.Core.List.{List, [], _∷_, _++_}
+use mathlib.Core.List.{List, [], _∷_}
 use lib.Dec.{leb, eqb}
 use lib.IntN.{ℤ, pos, negsuc, natAbs}
-use lib.ListN.{length, getD, drop}
+use lib.ListN.{length, getD}
 use Rattle.calls.specs.Bounds.{largestM, mostPositions, mostWorkspace}
 use Rattle.calls.specs.Numbers.{between, refusalNumber}
 use Rattle.calls.specs.Signs.{isNegative, flipped}
@@ -14,6 +14,7 @@ use Rattle.settings.specs.declared.Lengths.{Lengths}
 use Rattle.settings.specs.Settings.{decodeNumber}
 use Rattle.scan.specs.Reading.{Reading, found, malformed, bind}
 use Rattle.scan.specs.Lines.{line, literal}
+use Rattle.scan.specs.Answers.{writtenOver}
 use Rattle.calls.specs.Texts.{bytes}
 use Rattle.report_input.specs.declared.Input.{Input}
 use Rattle.report_input.specs.declared.Input.the-variants.{Accepted, Refused}
@@ -156,15 +157,14 @@ abbrev pub answerOf : Input → ReadAnswer
 answerOf (Accepted s) = accepted s
 answerOf (Refused r) = rejected (refusalNumber r)
 
--- values from the first element on, the old contents behind them
-module _ {A : Type 0} where
-  abbrev pub writtenOver : List A → List A → List A
-  writtenOver values old = values ++ drop (length values) old
+-- a block in the first elements, the old contents behind it
+abbrev pub blockOver : Block → Block → Block
+blockOver b old = blockOf (writtenOver (b .mask) (old .mask)) (writtenOver (b .llr) (old .llr))
 
 -- the lent slices: after a refusal as they were
 abbrev pub blockAfter : Meaning → Block → Block
 blockAfter (refused number) old = old
-blockAfter (block s b) old = blockOf (writtenOver (b .mask) (old .mask)) (writtenOver (b .llr) (old .llr))
+blockAfter (block s b) old = blockOver b old
 
 -- `before` and `after` are the contents of the lent slices
 pub record InputRead (means : Meaning) (before after : Block) (r : Input) : Type 0 where

@@ -1,21 +1,21 @@
 -- Laws of the input: how its lines are read one by one, and what an accepted block is.
 use Prim.Native.Nat.{ℕ, zero, suc, _+_, _-_, _^_, _<_, _≤_}
-use mathlib.Core.Path.{_≡_, refl, sym, ap, ap₂, _∙_, subst}
-use mathlib.Core.Bool.{Bool, true, false, cond, true≢false}
+use mathlib.Core.Path.{_≡_, refl, sym, ap, ap₂, _∙_}
+use mathlib.Core.Bool.{Bool, true, false, cond}
 use mathlib.Core.List.{List, [], _∷_, _++_, append-assoc, append-nil}
 use native.Mathlib.Numerals.{add-one}
 use native.Mathlib.Omega.{arith}
 use lib.Dec.{leb, eqb, lit<}
 use lib.IntN.{ℤ, pos}
 use borrow.Author.Tests.{le-leb, lt-leb}
-use lib.ListN.{length, drop, take, set, drop-of-length-le, take-append-drop}
-use lib.Seq.{take-suc-set, getD-take, drop-cons}
+use lib.ListN.{length, drop, take, set, drop-of-length-le}
+use lib.Seq.{take-suc-set, getD-take, drop-cons, sets}
 use Rattle.calls.specs.Bounds.{largestM}
 use Rattle.calls.specs.declared.Refusal.{Refusal}
 use Rattle.calls.specs.Numbers.{between, refusalNumber, firstRefusal}
 use Rattle.calls.specs.NumberLaws.{refused-first}
 use Rattle.settings.specs.declared.Settings.{Settings}
-use Rattle.scan.specs.Reading.{Reading, found, malformed, bind}
+use Rattle.scan.specs.Reading.{Reading, found, malformed, bind, ifFound}
 use Rattle.report_input.specs.Input.{
   longestText,
   valueAt,
@@ -40,14 +40,12 @@ use Rattle.report_input.specs.Input.{
   tested,
   sized,
   meaning,
-  writtenOver,
+  blockOver,
   InputRead,
 }
 use Rattle.scan.specs.Lines.{line, literal}
-use Rattle.scan.specs.declared.Next.{Next}
-use Rattle.scan.specs.declared.Next.the-variants.{At, Malformed}
-use Rattle.scan.specs.Answers.{readTo}
-use Rattle.report_input.specs.Private.{firstOf, numberIn}
+use Rattle.scan.specs.ScanLaws.{bind-found, written-sets}
+use Rattle.report_input.specs.Private.{positionsStored, numberIn}
 use Rattle.report_input.specs.declared.Input.the-variants.{Accepted, Refused}
 
 -- ---- one line
@@ -139,6 +137,66 @@ pub read-positions-end : (n : ℕ) (mask : List ℕ) (llr : List ℤ) (s : List 
     → prefixed mask llr (readPositions (n - n) n s) ≡ found (blockOf mask llr) s
 unfolding readPositions
 read-positions-end n mask llr s = let left : n - n ≡ 0 = omega arith in rw (left, append-nil mask, append-nil llr)
+
+-- ---- what is stored of them
+
+-- a block stored one after another from element i on
+abbrev pub storedFrom : ℕ → Block → Block → Block
+storedFrom i b old = blockOf (sets (old .mask) i (b .mask)) (sets (old .llr) i (b .llr))
+
+-- where i of n lines are stored: one more
+pub stored-positions-next : (n i : ℕ) (s t mask : List ℕ) (llr : List ℤ) (r : PositionInput) → i < n
+    → readPosition i s ≡ found r t
+    → storedFrom (i + 1) (positionsStored (n - (i + 1)) (i + 1) t) (blockOf (set mask i (r .frozen)) (set llr i (r .llr)))
+    ≡ storedFrom i (positionsStored (n - i) i s) (blockOf mask llr)
+unfolding positionsStored
+stored-positions-next n i s t mask llr r h e =
+    let left : n - i ≡ suc (n - suc i) = omega arith in rw (left, e, add-one i)
+
+-- no line of the next position
+pub stored-positions-stop : (n i : ℕ) (s : List ℕ) → i < n → readPosition i s ≡ malformed
+    → positionsStored (n - i) i s ≡ blockOf [] []
+unfolding positionsStored
+stored-positions-stop n i s h e = let left : n - i ≡ suc (n - suc i) = omega arith in rw (left, e)
+
+-- no line left
+pub stored-positions-end : (n : ℕ) (s : List ℕ) → positionsStored (n - n) n s ≡ blockOf [] []
+unfolding positionsStored
+stored-positions-end n s = let left : n - n ≡ 0 = omega arith in rw left
+
+-- at most n of n
+stored-positions-short : (n p : ℕ) (s : List ℕ) →
+    (length (positionsStored n p s .mask) ≤ n) × (length (positionsStored n p s .llr) ≤ n)
+unfolding positionsStored
+stored-positions-short zero p s = (omega arith, omega arith)
+stored-positions-short (suc n) p s = first (readPosition p s) (λ u. stored-positions-short n (suc p) u)
+  where
+    first : (R : Reading PositionInput)
+        → ((u : List ℕ)
+        → (length (positionsStored n (suc p) u .mask) ≤ n) × (length (positionsStored n (suc p) u .llr) ≤ n)) →
+        let b = ifFound R (blockOf [] []) (λ r u. above r (positionsStored n (suc p) u)) in
+        (length (b .mask) ≤ suc n) × (length (b .llr) ≤ suc n)
+    first malformed short = (omega arith, omega arith)
+    first (found r u) short = (omega (arith, short u .0), omega (arith, short u .1))
+
+pub stored-positions-over : (n : ℕ) (s : List ℕ) (old : Block) → n ≤ length (old .mask) → n ≤ length (old .llr)
+    → storedFrom 0 (positionsStored n 0 s) old ≡ blockOver (positionsStored n 0 s) old
+stored-positions-over n s old mask-long llr-long =
+    let b = positionsStored n 0 s in
+    let short = stored-positions-short n 0 s in
+    ap₂ blockOf (written-sets (b .mask) (old .mask) (omega arith)) (written-sets (b .llr) (old .llr) (omega arith))
+
+-- lines that were read are stored whole
+pub stored-positions : (n p : ℕ) (s : List ℕ) (b : Block) (u : List ℕ) → readPositions n p s ≡ found b u
+    → positionsStored n p s ≡ b
+unfolding readPositions positionsStored
+stored-positions zero p s b u e = cc
+stored-positions (suc n) p s b u e =
+    let (r, v, h, e₁) =
+    bind-found (readPosition p s) (λ r s. bind (readPositions n (suc p) s) (λ b s. found (above r b) s)) b u e in
+    let (rest, w, g, e₂) = bind-found (readPositions n (suc p) v) (λ b s. found (above r b) s) b u e₁ in
+    let same : above r rest ≡ b = cc in
+    rw (h, stored-positions n (suc p) v rest w g) same
 
 -- ---- n lines give n mask values and n LLRs
 
@@ -244,21 +302,6 @@ accepted-block s (found b []) e =
     let zero-number : blockNumber s b ≡ 0 = sym (number-in (blockNumber s b) s b) ∙ sym e in
     record { b = b; read = refl; means = rw zero-number }
 
--- ---- an answer that found something found what the definition finds
-
-module _ {A : Type 0} where
-  pub read-found : (t : List ℕ) (a b : A) (s : List ℕ) (r : Next) → readTo t a r ≡ found b s → a ≡ b
-  read-found t a b s (At next) e = ap (orElse a) e
-    where
-      orElse : A → Reading A → A
-      orElse d (found x s) = x
-      orElse d malformed = d
-  read-found t a b s Malformed e = absurd (true≢false (sym (ap isFound e)))
-    where
-      isFound : Reading A → Bool
-      isFound (found x s) = true
-      isFound malformed = false
-
 -- ---- what `read` answers and leaves
 
 pub read-refused : {old : Block} {means : Meaning} (r : Refusal) → means ≡ refused (refusalNumber r)
@@ -272,27 +315,14 @@ pub sized-tested : (s : Settings) (t : List ℕ) → between 1 largestM (s .m) �
     → sized (found s t) ≡ tested s (readPositions (2 ^ s .m) 0 t)
 sized-tested s t e = rw e
 
--- n elements of a slice were replaced
-replaced : {A : Type 0} (n : ℕ) (old new values : List A) → length values ≡ n → take n new ≡ values
-    → drop n new ≡ drop n old → new ≡ writtenOver values old
-replaced n old new values long first behind =
-    sym (take-append-drop n new) ∙ ap₂ _++_ first behind ∙ ap (λ (k : ℕ). values ++ drop k old) (sym long)
-
-pub read-accepted : (s : Settings) (t u : List ℕ) (n : ℕ) (r : Next) {old new : Block}
+pub read-accepted : (s : Settings) (u : List ℕ) (n : ℕ) {old new : Block}
     → 0 ≡ numberIn (tested s (readPositions (2 ^ s .m) 0 u)) → n ≡ 2 ^ s .m
-    → readPositions n 0 u ≡ readTo t (firstOf n new) r
-    → drop n (new .mask) ≡ drop n (old .mask) → drop n (new .llr) ≡ drop n (old .llr)
+    → new ≡ blockOver (positionsStored n 0 u) old
     → InputRead (tested s (readPositions (2 ^ s .m) 0 u)) old new (Accepted s)
-read-accepted s t u n r {old} {new} none size seen mask-behind llr-behind =
+read-accepted s u n {old} none size stored =
     let whole = accepted-block s (readPositions (2 ^ s .m) 0 u) none in
-    let same : readPositions n 0 u ≡ readPositions (2 ^ s .m) 0 u = ap (λ (k : ℕ). readPositions k 0 u) size in
-    let long = subst (Each (Long n)) (same ∙ whole .read) (read-positions-long n 0 u) in
-    let b : firstOf n new ≡ whole .b = read-found t (firstOf n new) (whole .b) [] r (sym seen ∙ same ∙ whole .read) in
-    let mask-is = replaced n (old .mask) (new .mask) (whole .b .mask) (long .mask-long) (ap (λ (x : Block). x .mask) b)
-    mask-behind in
-    let llr-is = replaced n (old .llr) (new .llr) (whole .b .llr) (long .llr-long) (ap (λ (x : Block). x .llr) b)
-    llr-behind in
-    rw (whole .means) (record { answer = refl; after-is = ap₂ blockOf mask-is llr-is })
+    let same = ap (λ (k : ℕ). positionsStored k 0 u) size ∙ stored-positions (2 ^ s .m) 0 u (whole .b) [] (whole .read) in
+    rw (whole .means) (record { answer = refl; after-is = stored ∙ ap (λ (b : Block). blockOver b old) same })
 
 pub meaning-long : (t : List ℕ) → longestText < length t → meaning t ≡ refused 14
 unfolding meaning

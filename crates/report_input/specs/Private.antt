@@ -1,14 +1,26 @@
--- For the contracts of private functions: what their answers say of the text t that they read. Definitions only.
-use Prim.Native.Nat.{ℕ}
-use mathlib.Core.List.{List}
-use lib.ListN.{drop, take}
+-- For the contracts of private functions: what their answers say of the text t that they read, and what they leave in
+-- the memory that they are lent. Definitions only.
+use Prim.Native.Nat.{ℕ, zero, suc, _≤_}
+use mathlib.Core.List.{List, []}
+use lib.ListN.{length, drop, take}
 use Rattle.settings.specs.declared.Settings.{Settings}
-use Rattle.scan.specs.Reading.{Reading, found, malformed}
-use Rattle.report_input.specs.Input.{PositionInput, Block, blockOf, Meaning, refused, block}
+use Rattle.scan.specs.Reading.{Reading, found, malformed, ifFound}
+use Rattle.report_input.specs.Input.{
+  PositionInput,
+  Block,
+  blockOf,
+  above,
+  readPosition,
+  Meaning,
+  refused,
+  block,
+}
 use Rattle.report_input.specs.declared.Head.{Head}
 use Rattle.report_input.specs.declared.Head.the-variants as head
 use Rattle.report_input.specs.declared.Position.{Position}
 use Rattle.report_input.specs.declared.Position.the-variants as position
+
+-- ---- what was read, and the text behind it
 
 abbrev pub headRead : List ℕ → Head → Reading Settings
 headRead t (head.Found s next) = found s (drop next t)
@@ -18,9 +30,29 @@ abbrev pub positionRead : List ℕ → Position → Reading PositionInput
 positionRead t (position.Found f l next) = found (record { frozen = f; llr = l }) (drop next t)
 positionRead t position.Malformed = malformed
 
+-- ---- a position is that of a byte of the text, or of its end
+
+abbrev pub HeadWithin : List ℕ → Head → Type 0
+HeadWithin t (head.Found s next) = next ≤ length t
+HeadWithin t head.Malformed = Unit
+
+abbrev pub PositionWithin : List ℕ → Position → Type 0
+PositionWithin t (position.Found f l next) = next ≤ length t
+PositionWithin t position.Malformed = Unit
+
+-- ---- lent memory
+
 -- the first n elements
 abbrev pub firstOf : ℕ → Block → Block
 firstOf n b = blockOf (take n (b .mask)) (take n (b .llr))
+
+-- the mask values and LLRs of n lines from position p on that are stored: all of them, or those before the first fault
+unfoldable pub positionsStored : ℕ → ℕ → List ℕ → Block
+positionsStored zero p s = blockOf [] []
+positionsStored (suc n) p s =
+    ifFound (readPosition p s) (blockOf [] []) (λ r s. above r (positionsStored n (suc p) s))
+
+-- ---- the number of a meaning
 
 -- 0 for a block
 abbrev pub numberIn : Meaning → ℕ

@@ -3,14 +3,16 @@
 // for every byte string, and that a refused text writes nothing.
 ghost use mathlib.Core.Path.{_≡_};
 ghost use Prim.Native.Nat.{_≤_, _<_, _^_};
-ghost use lib.ListN.{length, drop, take};
+ghost use lib.ListN.{length, drop};
 ghost use Rattle.calls.specs.Bounds.{largestM};
 ghost use Rattle.calls.specs.Numbers.{numberOf, between};
-ghost use Rattle.scan.specs.Answers.{readTo};
+ghost use Rattle.scan.specs.Answers.{readTo, Within};
 ghost use Rattle.scan.specs.Reading.{found};
-ghost use Rattle.report_input.specs.Input.{valueAt, unsigned, maskValue, llrValue, settingsOf, head, blockOf};
-ghost use Rattle.report_input.specs.Input.{readPosition, readPositions, tested, sized, meaning, InputRead};
-ghost use Rattle.report_input.specs.Private.{headRead, positionRead, firstOf, numberIn};
+ghost use Rattle.report_input.specs.Input.{valueAt, unsigned, maskValue, llrValue, settingsOf, head};
+ghost use Rattle.report_input.specs.Input.{readPosition, readPositions, blockOf, blockOver};
+ghost use Rattle.report_input.specs.Input.{tested, sized, meaning, InputRead};
+ghost use Rattle.report_input.specs.Private.{headRead, HeadWithin, positionRead, PositionWithin};
+ghost use Rattle.report_input.specs.Private.{firstOf, positionsStored, numberIn};
 use calls::Answer;
 use calls::LARGEST_M;
 use calls::MOST_POSITIONS;
@@ -101,6 +103,7 @@ fn settings_of(values: &[i32; 6]) -> Settings
 // A later setting joins the end of the first name line, and takes its default here where the line ends before its name.
 fn read_head(text: &[u8]) -> Head
     ensures { λ r. ⌜ head (now (text .entry)) ≡ headRead (now (text .entry)) r ⌝ }
+    ensures { λ r. ⌜ HeadWithin (now (text .entry)) r ⌝ }
 {
     let names = scan::literal(text, 0, b"m ceiling scale limit criterion operand\n");
     let Next::At(second) = names else {
@@ -123,7 +126,9 @@ fn read_head(text: &[u8]) -> Head
 
 // The line of a position.
 fn read_position(text: &[u8], at: usize, position: usize) -> Position
+    requires { ⌜ at ≤ length (now text) ⌝ }
     ensures { λ r. ⌜ readPosition position (drop at (now (text .entry))) ≡ positionRead (now (text .entry)) r ⌝ }
+    ensures { λ r. ⌜ PositionWithin (now (text .entry)) r ⌝ }
 {
     let mut values = [0i32; 3];
     let line = scan::line(text, at, 3, &mut values);
@@ -141,13 +146,14 @@ fn read_position(text: &[u8], at: usize, position: usize) -> Position
     }
 }
 
-// The lines of n positions.
+// The lines of n positions, stored in the first elements of two slices; those read before a fault are stored too.
 fn read_positions(text: &[u8], at: usize, n: usize, mask: &mut [u8], llr: &mut [i16]) -> Next
-    requires { ⌜ (n ≤ length (now mask)) × (n ≤ length (now llr)) ⌝ }
+    requires { ⌜ (at ≤ length (now text)) × (n ≤ length (now mask)) × (n ≤ length (now llr)) ⌝ }
     ensures { λ r. ⌜ readPositions n 0 (drop at (now (text .entry)))
         ≡ readTo (now (text .entry)) (firstOf n (blockOf (now (mask .exit)) (now (llr .exit)))) r ⌝ }
-    ensures { λ _. ⌜ drop n (now (mask .exit)) ≡ drop n (now (mask .entry)) ⌝ }
-    ensures { λ _. ⌜ drop n (now (llr .exit)) ≡ drop n (now (llr .entry)) ⌝ }
+    ensures { λ r. ⌜ Within (now (text .entry)) r ⌝ }
+    ensures { λ _. ⌜ blockOf (now (mask .exit)) (now (llr .exit))
+        ≡ blockOver (positionsStored n 0 (drop at (now (text .entry)))) (blockOf (now (mask .entry)) (now (llr .entry))) ⌝ }
 {
     let mut i = 0;
     let mut next = at;
@@ -172,7 +178,7 @@ fn read_positions(text: &[u8], at: usize, n: usize, mask: &mut [u8], llr: &mut [
 // What refuses the lines of the positions, where the settings' m is in its range. They are read into memory of its own,
 // so that nothing is written yet.
 fn refusal(text: &[u8], at: usize, settings: Settings) -> Answer
-    requires { ⌜ (1 ≤ settings .m) × (settings .m ≤ largestM) ⌝ }
+    requires { ⌜ (at ≤ length (now text)) × (1 ≤ settings .m) × (settings .m ≤ largestM) ⌝ }
     ensures { λ r. ⌜ numberOf r
         ≡ numberIn (tested settings (readPositions (2 ^ settings .m) 0 (drop at (now (text .entry))))) ⌝ }
 {
@@ -212,6 +218,7 @@ fn read_block(
     mask: &mut [u8; MOST_POSITIONS],
     llr: &mut [i16; MOST_POSITIONS],
 ) -> Input
+    requires { ⌜ at ≤ length (now text) ⌝ }
     ensures { λ r. ⌜ InputRead (sized (found settings (drop at (now (text .entry)))))
         (blockOf (now (mask .entry)) (now (llr .entry))) (blockOf (now (mask .exit)) (now (llr .exit))) r ⌝ }
 {

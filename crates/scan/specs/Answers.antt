@@ -1,13 +1,18 @@
--- What the answers of the code say of the text t that it reads. Definitions only.
-use Prim.Native.Nat.{ℕ}
-use mathlib.Core.List.{List}
+-- What the answers of the code say of the text t that it reads, and what it leaves in the memory that it is lent.
+-- Definitions only.
+use Prim.Native.Nat.{ℕ, zero, suc, _≤_}
+use mathlib.Core.List.{List, [], _∷_, _++_}
 use lib.IntN.{ℤ}
-use lib.ListN.{drop}
-use Rattle.scan.specs.Reading.{Reading, found, malformed}
+use lib.ListN.{length, drop}
+use Rattle.scan.specs.Reading.{Reading, found, malformed, ifFound}
+use Rattle.scan.specs.Numbers.{number}
+use Rattle.scan.specs.Lines.{separator}
 use Rattle.scan.specs.declared.Value.{Value}
 use Rattle.scan.specs.declared.Value.the-variants.{Found, Missing}
 use Rattle.scan.specs.declared.Next.{Next}
 use Rattle.scan.specs.declared.Next.the-variants.{At, Malformed}
+
+-- ---- what was read, and the text behind it
 
 abbrev pub valueRead : List ℕ → Value → Reading ℤ
 valueRead t (Found z next) = found z (drop next t)
@@ -18,3 +23,28 @@ module _ {A : Type 0} where
   abbrev pub readTo : List ℕ → A → Next → Reading A
   readTo t a (At next) = found a (drop next t)
   readTo t a Malformed = malformed
+
+-- ---- a position is that of a byte of the text, or of its end
+
+abbrev pub ValueWithin : List ℕ → Value → Type 0
+ValueWithin t (Found z next) = next ≤ length t
+ValueWithin t Missing = Unit
+
+abbrev pub Within : List ℕ → Next → Type 0
+Within t (At next) = next ≤ length t
+Within t Malformed = Unit
+
+-- ---- lent memory
+
+-- values from the first element on, the old contents behind them
+module _ {A : Type 0} where
+  abbrev pub writtenOver : List A → List A → List A
+  writtenOver values old = values ++ drop (length values) old
+
+-- the values of a line of n that are stored: all of them, or those before the first fault. A value is stored once what
+-- stands behind it has been read too
+unfoldable pub valuesStored : ℕ → List ℕ → List ℤ
+valuesStored zero s = []
+valuesStored (suc n) s =
+    ifFound (number s) [] (λ z s.
+    ifFound (separator n s) [] (λ _ s. z ∷ valuesStored n s))

@@ -8,6 +8,7 @@ use Rattle.calls.specs.Texts.{bytes}
 use Rattle.scan.specs.Reading.{Reading, found, malformed}
 use Rattle.scan.specs.Numbers.{digits, natural, number}
 use Rattle.scan.specs.Lines.{spaces, separator, line, literal}
+use Rattle.scan.specs.Answers.{valuesStored}
 
 abbrev read : ℕ → String → Reading (List ℤ)
 read n s = line n (bytes s)
@@ -100,6 +101,24 @@ too-few = refl
 empty : read 1 "" ≡ malformed
 unfolding line number natural digits separator spaces
 empty = refl
+
+-- ---- what is stored of a line
+
+abbrev stored : ℕ → String → List ℤ
+stored n s = valuesStored n (bytes s)
+
+stored-whole : stored 3 "1 2 3\n" ≡ pos 1 ∷ pos 2 ∷ pos 3 ∷ []
+unfolding valuesStored number natural digits separator spaces
+stored-whole = refl
+
+-- the second value is no number, or has no space behind it
+stored-to-the-fault : stored 3 "1 x 3\n" ≡ pos 1 ∷ []
+unfolding valuesStored number natural digits separator spaces
+stored-to-the-fault = refl
+
+stored-to-the-line-end : stored 3 "1 2\n3\n" ≡ pos 1 ∷ []
+unfolding valuesStored number natural digits separator spaces
+stored-to-the-line-end = refl
 
 -- ---- fixed texts
 

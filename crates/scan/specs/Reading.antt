@@ -13,6 +13,11 @@ module _ {A B : Type 0} where
   bind (found a s) next = next a s
   bind malformed next = malformed
 
+  -- what to make of a reading that found something, and what where it did not
+  abbrev pub ifFound : Reading A → B → (A → List ℕ → B) → B
+  ifFound (found a s) none next = next a s
+  ifFound malformed none next = none
+
 -- the first byte of a text, 0 where it is empty (no rule lets a byte 0 pass), and the text behind it
 abbrev pub first : List ℕ → ℕ
 first [] = 0

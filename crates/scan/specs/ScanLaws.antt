@@ -4,17 +4,19 @@ use Prim.Native.Nat.{ℕ, zero, suc, _+_, _-_, _*_, _<_, _≤_}
 use mathlib.Core.Path.{_≡_, refl, sym, ap, _∙_}
 use mathlib.Core.Bool.{Bool, true, false, cond, _&&_, true≢false}
 use mathlib.Core.List.{List, [], _∷_, _++_, append-assoc}
+use native.Mathlib.Nat.{zero-add}
 use native.Mathlib.Omega.{arith}
 use native.Mathlib.Numerals.{add-one, sub-one}
 use borrow.Author.Tests.{leb-true}
 use lib.Dec.{leb, eqb}
 use lib.IntN.{ℤ, pos, negℤ, natAbs}
 use lib.ListN.{length, getD, drop, take, set, drop-of-length-le}
-use lib.Seq.{drop-cons, take-suc-set}
+use lib.Seq.{drop-cons, take-suc-set, sets, sets-eq, drop-append-add, drop-drop}
 use Rattle.calls.specs.SignLaws.{size-neg}
-use Rattle.scan.specs.Reading.{Reading, found, malformed, bind, first, rest}
+use Rattle.scan.specs.Reading.{Reading, found, malformed, bind, ifFound, first, rest}
 use Rattle.scan.specs.Numbers.{isDigit, digits, natural, number}
 use Rattle.scan.specs.Lines.{spaces, separator, line, literal}
+use Rattle.scan.specs.Answers.{writtenOver, valuesStored}
 
 -- ---- one reading after another
 
@@ -36,6 +38,20 @@ module _ {A B : Type 0} where
       bind (bind r next) last ≡ bind r (λ a s. bind (next a s) last)
   bind-bind (found a s) next last = refl
   bind-bind malformed next last = refl
+
+-- ---- lent memory
+
+module _ {A : Type 0} where
+  -- what is stored one after another from the first element on
+  pub written-sets : (values old : List A) → length values ≤ length old → sets old 0 values ≡ writtenOver values old
+  written-sets values old h =
+      sets-eq values old 0 (omega arith) ∙ ap (λ (n : ℕ). values ++ drop n old) (zero-add (length values))
+
+  pub written-behind : (values old : List A) (n : ℕ) → length values ≤ n → drop n (writtenOver values old) ≡ drop n old
+  written-behind values old n h =
+      let e : n ≡ length values + (n - length values) = omega arith in
+      rw e (drop-append-add values (drop (length values) old) (n - length values)
+      ∙ drop-drop (n - length values) (length values) old)
 
 -- ---- the byte at a position, and the text behind it
 
@@ -232,6 +248,69 @@ module _ (n : ℕ) (s : List ℕ) (h : 0 < n) where
 pub behind-stored : (values : List ℤ) (i : ℕ) (z : ℤ) (r : Reading (List ℤ)) → i < length values →
     behind (take i values) (behind (z ∷ []) r) ≡ behind (take (i + 1) (set values i z)) r
 behind-stored values i z r h = behind-both (take i values) (z ∷ []) r ∙ rw (add-one i, take-suc-set values i z h)
+
+-- ---- the values of a line that are stored
+
+pub stored-none : (n : ℕ) (s : List ℕ) → n ≤ 0 → valuesStored n s ≡ []
+unfolding valuesStored
+stored-none zero s h = refl
+stored-none (suc n) s h = absurd (omega arith)
+
+stored-some : (n : ℕ) (s : List ℕ) → 0 < n → valuesStored n s
+    ≡ ifFound (number s) [] (λ z u. ifFound (separator (n - 1) u) [] (λ _ w. z ∷ valuesStored (n - 1) w))
+unfolding valuesStored
+stored-some zero s h = absurd (omega arith)
+stored-some (suc n) s h = rw (sub-one (suc n))
+
+module _ (n : ℕ) (s : List ℕ) (h : 0 < n) where
+  pub stored-no-number : number s ≡ malformed → valuesStored n s ≡ []
+  stored-no-number e = stored-some n s h ∙ rw e
+
+  module _ (z : ℤ) (u : List ℕ) (e : number s ≡ found z u) where
+    pub stored-no-separator : separator (n - 1) u ≡ malformed → valuesStored n s ≡ []
+    stored-no-separator g = stored-some n s h ∙ rw (e, g)
+
+    pub stored-next : (w : List ℕ) → separator (n - 1) u ≡ found tt w
+        → valuesStored n s ≡ z ∷ valuesStored (n - 1) w
+    stored-next w g = stored-some n s h ∙ rw (e, g)
+
+-- at most n of n
+pub stored-length : (n : ℕ) (s : List ℕ) → length (valuesStored n s) ≤ n
+unfolding valuesStored
+stored-length zero s = omega arith
+stored-length (suc n) s = first-value (number s) (λ w. stored-length n w)
+  where
+    first-separator : (z : ℤ) (r : Reading Unit) → ((w : List ℕ) → length (valuesStored n w) ≤ n)
+        → length (ifFound r [] (λ _ w. z ∷ valuesStored n w)) ≤ suc n
+    first-separator z (found _ w) short = omega (arith, short w)
+    first-separator z malformed short = omega arith
+
+    first-value : (r : Reading ℤ) → ((w : List ℕ) → length (valuesStored n w) ≤ n)
+        → length (ifFound r [] (λ z u. ifFound (separator n u) [] (λ _ w. z ∷ valuesStored n w))) ≤ suc n
+    first-value (found z u) short = first-separator z (separator n u) short
+    first-value malformed short = omega arith
+
+-- stored one after another
+pub stored-over : (n : ℕ) (s : List ℕ) (old : List ℤ) → n ≤ length old
+    → sets old 0 (valuesStored n s) ≡ writtenOver (valuesStored n s) old
+stored-over n s old h = written-sets (valuesStored n s) old (omega (arith, stored-length n s))
+
+-- behind the first n elements nothing is written
+pub stored-behind : (n : ℕ) (s : List ℕ) (old : List ℤ)
+    → drop n (writtenOver (valuesStored n s) old) ≡ drop n old
+stored-behind n s old = written-behind (valuesStored n s) old n (stored-length n s)
+
+-- a line that was read is stored whole
+pub stored-line : (n : ℕ) (s : List ℕ) (zs : List ℤ) (u : List ℕ) → line n s ≡ found zs u → valuesStored n s ≡ zs
+unfolding line valuesStored
+stored-line zero s zs u e = cc
+stored-line (suc n) s zs u e =
+    let (z, v, h, e₁) =
+    bind-found (number s) (λ z s. bind (separator n s) (λ _ s. behind (z ∷ []) (line n s))) zs u e in
+    let (_, w, k, e₂) = bind-found (separator n v) (λ _ s. behind (z ∷ []) (line n s)) zs u e₁ in
+    let (ys, x, g, e₃) = bind-found (line n w) (λ ys s. found (z ∷ ys) s) zs u e₂ in
+    let same : z ∷ ys ≡ zs = cc in
+    rw (h, k, stored-line n w ys x g) same
 
 -- ---- the sizes of values
 

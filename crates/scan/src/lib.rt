@@ -1,6 +1,6 @@
 // Reads numbers, lines of values and fixed texts from a text of bytes, at positions.
 // It sees `calls` for its definitions. It promises that each reading finds what the definitions of specs/ find, and
-// where the text goes on. A position behind the end of the text is allowed everywhere: nothing stands there.
+// where the text goes on: at a position within it, or at its end, if the position handed in is one too.
 ghost use mathlib.Core.Path.{_≡_};
 ghost use Prim.Native.Nat.{_≤_};
 ghost use lib.Dec.{eqb};
@@ -10,7 +10,7 @@ ghost use Rattle.calls.specs.Signs.{flipped};
 ghost use Rattle.scan.specs.Reading.{first, found, bind};
 ghost use Rattle.scan.specs.Numbers.{isDigit, digits, natural, number};
 ghost use Rattle.scan.specs.Lines.{spaces, separator, line, literal};
-ghost use Rattle.scan.specs.Answers.{valueRead, readTo};
+ghost use Rattle.scan.specs.Answers.{valueRead, readTo, ValueWithin, Within, writtenOver, valuesStored};
 
 // A value and the position behind it.
 pub enum Value {
@@ -74,8 +74,10 @@ fn same_byte(a: u8, b: u8) -> bool
 
 // The digits at a position, at most six.
 fn digits(text: &[u8], at: usize) -> Natural
+    requires { ⌜ at ≤ length (now text) ⌝ }
     ensures { λ r. ⌜ digits 6 0 (drop at (now (text .entry)))
         ≡ found (r .value) (drop (r .next) (now (text .entry))) ⌝ }
+    ensures { λ r. ⌜ r .next ≤ length (now (text .entry)) ⌝ }
 {
     let mut left: u32 = 6;
     let mut value: u32 = 0;
@@ -100,8 +102,10 @@ fn digits(text: &[u8], at: usize) -> Natural
 
 // One to six digits, with the sign that stood before them.
 fn signed_natural(text: &[u8], at: usize, negative: bool) -> Value
+    requires { ⌜ at ≤ length (now text) ⌝ }
     ensures { λ r. ⌜ bind (natural (drop at (now (text .entry)))) (λ n s. found (flipped negative (pos n)) s)
         ≡ valueRead (now (text .entry)) r ⌝ }
+    ensures { λ r. ⌜ ValueWithin (now (text .entry)) r ⌝ }
 {
     if is_digit(byte_at(text, at)) {
         let size = digits(text, at);
@@ -124,7 +128,9 @@ fn signed_natural(text: &[u8], at: usize, negative: bool) -> Value
 
 // One value.
 pub fn number(text: &[u8], at: usize) -> Value
+    requires { ⌜ at ≤ length (now text) ⌝ }
     ensures { λ r. ⌜ number (drop at (now (text .entry))) ≡ valueRead (now (text .entry)) r ⌝ }
+    ensures { λ r. ⌜ ValueWithin (now (text .entry)) r ⌝ }
 {
     if is_minus(byte_at(text, at)) {
         signed_natural(text, at + 1, true)
@@ -135,7 +141,9 @@ pub fn number(text: &[u8], at: usize) -> Value
 
 // The position behind the spaces at a position.
 fn spaces(text: &[u8], at: usize) -> usize
+    requires { ⌜ at ≤ length (now text) ⌝ }
     ensures { λ r. ⌜ spaces (drop at (now (text .entry))) ≡ drop r (now (text .entry)) ⌝ }
+    ensures { λ r. ⌜ r ≤ length (now (text .entry)) ⌝ }
 {
     let mut p = at;
     while is_space(byte_at(text, p)) {
@@ -146,7 +154,9 @@ fn spaces(text: &[u8], at: usize) -> usize
 
 // What stands behind a value with `more` values to come in its line.
 fn separator(text: &[u8], at: usize, more: usize) -> Next
+    requires { ⌜ at ≤ length (now text) ⌝ }
     ensures { λ r. ⌜ separator more (drop at (now (text .entry))) ≡ readTo (now (text .entry)) tt r ⌝ }
+    ensures { λ r. ⌜ Within (now (text .entry)) r ⌝ }
 {
     let b = byte_at(text, at);
     if more == 0 {
@@ -166,10 +176,12 @@ fn separator(text: &[u8], at: usize, more: usize) -> Next
 
 // A line of `count` values, stored in the first elements of a slice; those read before a fault are stored too.
 pub fn line(text: &[u8], at: usize, count: usize, values: &mut [i32]) -> Next
-    requires { ⌜ count ≤ length (now values) ⌝ }
+    requires { ⌜ (at ≤ length (now text)) × (count ≤ length (now values)) ⌝ }
     ensures { λ r. ⌜ line count (drop at (now (text .entry)))
         ≡ readTo (now (text .entry)) (take count (now (values .exit))) r ⌝ }
-    ensures { λ _. ⌜ drop count (now (values .exit)) ≡ drop count (now (values .entry)) ⌝ }
+    ensures { λ r. ⌜ Within (now (text .entry)) r ⌝ }
+    ensures { λ _. ⌜ now (values .exit)
+        ≡ writtenOver (valuesStored count (drop at (now (text .entry)))) (now (values .entry)) ⌝ }
 {
     let mut left = count;
     let mut i: usize = 0;
@@ -197,7 +209,9 @@ pub fn line(text: &[u8], at: usize, count: usize, values: &mut [i32]) -> Next
 
 // A fixed text, byte for byte.
 pub fn literal(text: &[u8], at: usize, name: &[u8]) -> Next
+    requires { ⌜ at ≤ length (now text) ⌝ }
     ensures { λ r. ⌜ literal (now (name .entry)) (drop at (now (text .entry))) ≡ readTo (now (text .entry)) tt r ⌝ }
+    ensures { λ r. ⌜ Within (now (text .entry)) r ⌝ }
 {
     let mut matched: usize = 0;
     let mut p = at;

@@ -26,12 +26,13 @@ enum-known-settings : tie.Need-enum-known-settings
 enum-known-settings c = search needs
 
 read-block-requires : tie.Need-read-block-requires
-read-block-requires c κs = search needs
+read-block-requires c κs =
+    let told = c .before .before .before in rw (told .settings .given .1) at (told .before .before .read-head .ensures .1)
 
 returns-2 : tie.Need-returns-2
 returns-2 c =
     let t = c .before .before .before .before .before .args .text .now in
-    let first = c .before .before .read-head .ensures ∙ ap (headRead t) (c .enum-told .given .1) in
+    let first = c .before .before .read-head .ensures .0 ∙ ap (headRead t) (c .enum-told .given .1) in
     read-refused MalformedText (meaning-sized t (c .before .before .before .if1 .left) ∙ ap sized first)
 
 returns-3 : tie.Need-returns-3
@@ -40,7 +41,7 @@ returns-3 c =
     let called = told .before .before in
     let test = called .before in
     let t = test .before .before .args .text .now in
-    let first = called .read-head .ensures ∙ ap (headRead t) (told .settings .given .1) in
+    let first = called .read-head .ensures .0 ∙ ap (headRead t) (told .settings .given .1) in
     rw (meaning-sized t (test .if1 .left), first) (c .read-block .ensures)
 
 pub read-spec : {M : Type 1} → statement M

@@ -50,7 +50,7 @@ returns c =
     read-refused BlockLength (sized-refused (a .settings) (drop (a .at) (a .text .now)) tested)
 
 refusal-requires : tie.Need-refusal-requires
-refusal-requires c κs = range c
+refusal-requires c κs = (start c .pre, range c .0, range c .1)
 
 enum-known-refusal : tie.Need-enum-known-refusal
 enum-known-refusal c = search needs
@@ -82,8 +82,7 @@ returns-3 c =
     let lines = c .read-positions in
     let called = sym (ap numberOf (told .enum-told .given .1)) ∙ told .before .before .refusal .ensures in
     rw (sized-tested (a .settings) (behind range) (passed range))
-    (read-accepted (a .settings) (a .text .now) (behind range) (n .result) (lines .result) called (n .ensures)
-    (lines .ensures .0) (lines .ensures .1 .0) (lines .ensures .1 .1))
+    (read-accepted (a .settings) (behind range) (n .result) called (n .ensures) (lines .ensures .1 .1))
 
 pub read-block-spec : {M : Type 1} → statement M
 read-block-spec =

@@ -1,9 +1,9 @@
 -- `read_head` meets its contract.
-use Prim.Native.Nat.{ℕ}
+use Prim.Native.Nat.{ℕ, _≤_}
 use mathlib.Core.Path.{_≡_, ap, _∙_}
 use mathlib.Core.List.{List}
 use lib.IntN.{ℤ}
-use lib.ListN.{drop, take}
+use lib.ListN.{length, drop, take}
 use Rattle.scan.specs.Reading.{found}
 use Rattle.scan.specs.Lines.{line, literal}
 use Rattle.scan.specs.Answers.{readTo}
@@ -27,7 +27,10 @@ module _ (c : tie.After-known-told) where
   text = start .args .text .now
 
   first : literal settingNames text ≡ found tt (drop (c .before .names .given .0 .0) text)
-  first = c .before .before .before .literal .ensures ∙ ap (readTo text tt) (c .before .names .given .1)
+  first = c .before .before .before .literal .ensures .0 ∙ ap (readTo text tt) (c .before .names .given .1)
+
+  first-within : c .before .names .given .0 .0 ≤ length text
+  first-within = rw (c .before .names .given .1) at (c .before .before .before .literal .ensures .1)
 
 -- the second line, with the six values that were read
 module _ (c : tie.After-known-told2) where
@@ -45,6 +48,9 @@ module _ (c : tie.After-known-told2) where
   second =
       c .before .before .before .before .line .ensures .0 ∙ ap (readTo t (take 6 values)) (c .before .line2 .given .1)
 
+  second-within : c .before .line2 .given .0 .0 ≤ length t
+  second-within = rw (c .before .line2 .given .1) at (c .before .before .before .before .line .ensures .1 .0)
+
 slice-aggregate-literal : tie.Need-slice-aggregate-literal
 slice-aggregate-literal c = search needs
 
@@ -60,13 +66,13 @@ enum-told c = search needs
 returns : tie.Need-returns
 returns c =
     let t = c .before .before .before .before .before .args .text .now in
-    head-first t (c .before .before .literal .ensures ∙ ap (readTo t tt) (c .enum-told .given .1))
+    (head-first t (c .before .before .literal .ensures .0 ∙ ap (readTo t tt) (c .enum-told .given .1)), tt)
 
 slice-aggregate-line : tie.Need-slice-aggregate-line
 slice-aggregate-line c = search needs
 
 line-requires : tie.Need-line-requires
-line-requires c κs = search needs
+line-requires c κs = (first-within (c .before), search needs)
 
 enum-known-line : tie.Need-enum-known-line
 enum-known-line c = search needs
@@ -77,15 +83,17 @@ enum-told-2 c = search needs
 returns-2 : tie.Need-returns-2
 returns-2 c =
     let one = c .before .before .before .before .before in
-    let called = c .before .before .before .line in
-    head-second (text one) _ (first one)
-    (called .ensures .0 ∙ ap (readTo (text one) (take 6 (called .last .1 .1 .1 .0))) (c .enum-told2 .given .1))
+    let called = c .before .before .before .line in (
+      head-second (text one) _ (first one)
+          (called .ensures .0 ∙ ap (readTo (text one) (take 6 (called .last .1 .1 .1 .0))) (c .enum-told2 .given .1)),
+      tt,
+    )
 
 slice-aggregate-literal-2 : tie.Need-slice-aggregate-literal-2
 slice-aggregate-literal-2 c = search needs
 
 literal-requires-2 : tie.Need-literal-requires-2
-literal-requires-2 c κs = search needs
+literal-requires-2 c κs = second-within (c .before)
 
 enum-known-names-2 : tie.Need-enum-known-names-2
 enum-known-names-2 c = search needs
@@ -95,9 +103,11 @@ enum-told-3 c = search needs
 
 returns-3 : tie.Need-returns-3
 returns-3 c =
-    let two = c .before .before .before .before in
-    head-third (t two) _ _ _ (first (behind-first two)) (second two)
-    (c .before .before .literal2 .ensures ∙ ap (readTo (t two) tt) (c .enum-told3 .given .1))
+    let two = c .before .before .before .before in (
+      head-third (t two) _ _ _ (first (behind-first two)) (second two)
+          (c .before .before .literal2 .ensures .0 ∙ ap (readTo (t two) tt) (c .enum-told3 .given .1)),
+      tt,
+    )
 
 settings-of-requires : tie.Need-settings-of-requires
 settings-of-requires c κs = search needs
@@ -106,8 +116,11 @@ returns-4 : tie.Need-returns-4
 returns-4 c =
     let two = c .before .before .before .before .before .before .before in
     let called = c .before .before .before .before .before .literal2 .ensures in
-    let third = called ∙ ap (readTo (t two) tt) (c .before .before .before .names2 .given .1) in
-    head-found (t two) _ _ _ (values two) (first (behind-first two)) (second two) third ∙ rw (c .settings-of .ensures)
+    let told = c .before .before .before .names2 .given .1 in
+    let third = called .0 ∙ ap (readTo (t two) tt) told in (
+      head-found (t two) _ _ _ (values two) (first (behind-first two)) (second two) third ∙ rw (c .settings-of .ensures),
+      rw told at (called .1),
+    )
 
 pub read-head-spec : {M : Type 1} → statement M
 read-head-spec =

@@ -2,13 +2,13 @@
 use mathlib.Core.Path.{_≡_, ap, _∙_}
 use mathlib.Core.List.{List}
 use borrow.Author.Tests.{eq-eqb, ne-eqb}
-use lib.IntN.{ℤ, pos}
+use lib.IntN.{ℤ}
 use lib.ListN.{drop, take}
 use mir.Syntax.{w16}
 use mir.Val.{toZ, ofZ}
 use mir.Facts.{toZ-ofZ}
 use Prim.Native.Nat.{ℕ}
-use Rattle.scan.specs.Reading.{found, malformed}
+use Rattle.scan.specs.Reading.{found}
 use Rattle.scan.specs.Lines.{line}
 use Rattle.scan.specs.Answers.{readTo}
 use Rattle.report_input.specs.Input.{valueAt, unsigned, maskValue, llrValue}
@@ -60,10 +60,12 @@ enum-told c = search needs
 returns : tie.Need-returns
 returns c =
     let called = c .before .before .before in
-    let a = called .before .before .before .args in
-    read-position-malformed (a .position) (drop (a .at) (a .text .now))
-    (called .line .ensures .0
-    ∙ ap (readTo (a .text .now) (take 3 (called .line .last .1 .1 .1 .0))) (c .enum-told .given .1))
+    let a = called .before .before .before .args in (
+      read-position-malformed (a .position) (drop (a .at) (a .text .now))
+          (called .line .ensures .0
+          ∙ ap (readTo (a .text .now) (take 3 (called .line .last .1 .1 .1 .0))) (c .enum-told .given .1)),
+      tt,
+    )
 
 array-copy-out-unsigned : tie.Need-array-copy-out-unsigned
 array-copy-out-unsigned c = search needs
@@ -97,15 +99,19 @@ returns-2 c =
     let llr : toZ w16 (ofZ w16 (c .llr-value .result)) ≡ llrValue (valueAt zs 2) =
     toZ-ofZ {w = w16} (record { sfits = c .llr-value .ok })
     ∙ c .llr-value .ensures
-    ∙ ap llrValue (kept (valueAt zs 2) (c .before .llr-value-arg .given)) in
-    read-position-found (start told .args .position) zs _ _ (read told)
-    ∙ rw (← position (test .before), eq-eqb _ _ (test .if1 .taken), frozen, llr)
+    ∙ ap llrValue (kept (valueAt zs 2) (c .before .llr-value-arg .given)) in (
+      read-position-found (start told .args .position) zs _ _ (read told)
+          ∙ rw (← position (test .before), eq-eqb _ _ (test .if1 .taken), frozen, llr),
+      rw (told .before .line2 .given .1) at (told .before .before .before .before .line .ensures .1 .0),
+    )
 
 returns-3 : tie.Need-returns-3
 returns-3 c =
-    let told = c .before .before .before in
-    read-position-found (start told .args .position) (values told) _ _ (read told)
-    ∙ rw (← position (c .before), ne-eqb _ _ (c .if1 .left))
+    let told = c .before .before .before in (
+      read-position-found (start told .args .position) (values told) _ _ (read told)
+          ∙ rw (← position (c .before), ne-eqb _ _ (c .if1 .left)),
+      tt,
+    )
 
 pub read-position-spec : {M : Type 1} → statement M
 read-position-spec =

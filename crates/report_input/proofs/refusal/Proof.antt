@@ -21,7 +21,7 @@ use Rattle.polar.proofs.power_of_two.Reads as power-of-two-reads
 use Rattle.settings.proofs.refusal.Reads as refusal-reads
 
 small : (c : tie.After-power-of-two) → c .power-of-two .result ≤ 2 ^ 10
-small c = rw (c .power-of-two .ensures) (pow-mono (c .before .before .pre .1))
+small c = rw (c .power-of-two .ensures) (pow-mono (c .before .before .pre .2))
 
 -- what the function is handed, and what the call of `read_positions` read
 module _ (c : tie.After-read-positions) where
@@ -62,7 +62,8 @@ slice-aggregate-read-positions-2 : tie.Need-slice-aggregate-read-positions-2
 slice-aggregate-read-positions-2 c = search needs
 
 read-positions-requires : tie.Need-read-positions-requires
-read-positions-requires c κs = (small (c .before .before), small (c .before .before))
+read-positions-requires c κs =
+    let n = c .before .before in (n .before .before .pre .0, small n, small n)
 
 enum-known-read : tie.Need-enum-known-read
 enum-known-read c = search needs

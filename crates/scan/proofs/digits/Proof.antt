@@ -1,6 +1,6 @@
 -- `digits` meets its contract. Going on from the value and the position reached gives what all six digits give; so no
 -- value exceeds 999999.
-use Prim.Native.Nat.{_-_, _<_, _≤_}
+use Prim.Native.Nat.{_<_, _≤_}
 use mathlib.Core.Path.{_≡_, refl, sym, _∙_}
 use native.Mathlib.Omega.{arith}
 use borrow.Author.Needs.{needs}
@@ -12,7 +12,8 @@ use Rattle.scan.proofs.digits.Statement.{statement}
 use Rattle.scan.proofs.digits.Tie as tie
 
 abbrev Inv-loop : tie.InvT-loop
-Inv-loop text at left₀ value₀ p₀ left value p = digits 6 0 (drop at text) ≡ digits left value (drop p text)
+Inv-loop text at left₀ value₀ p₀ left value p =
+    (digits 6 0 (drop at text) ≡ digits left value (drop p text)) × (p ≤ length text)
 
 abbrev μ-loop : tie.MeasureT-loop
 μ-loop text at left₀ value₀ p₀ left value p = left
@@ -34,10 +35,10 @@ small : (c : tie.At-loop Inv-loop μ-loop) → c .loop .value ≤ 999999
 small c =
     let l = c .loop in
     let a = c .before .before .args in
-    at-most-six (l .left) (l .value) (drop (a .at) (a .text .now)) (drop (l .p) (a .text .now)) (l .inv)
+    at-most-six (l .left) (l .value) (drop (a .at) (a .text .now)) (drop (l .p) (a .text .now)) (l .inv .0)
 
 loop-holds : tie.Need-loop-holds Inv-loop μ-loop
-loop-holds c = refl
+loop-holds c = (refl, omega arith)
 
 byte-at-requires : tie.Need-byte-at-requires Inv-loop μ-loop
 byte-at-requires c κs = search needs
@@ -49,9 +50,12 @@ returns : tie.Need-returns Inv-loop μ-loop
 returns c =
     let k = c .before .before .before .before in
     let l = k .loop in
-    l .inv ∙ digits-end (l .left) (l .value) (drop (l .p) (k .before .before .args .text .now))
-    (rw (← c .before .before .byte-at .ensures, ← c .before .is-digit .ensures)
-    (not-true (c .before .is-digit .result) (c .if1 .taken)))
+    let e = not-true (c .before .is-digit .result) (c .if1 .taken) in (
+      l .inv .0
+          ∙ digits-end (l .left) (l .value) (drop (l .p) (k .before .before .args .text .now))
+          (rw (← c .before .before .byte-at .ensures, ← c .before .is-digit .ensures) e),
+      l .inv .1,
+    )
 
 mul-value : tie.Need-mul-value Inv-loop μ-loop
 mul-value c = omega (arith, small (c .before .before .before .before))
@@ -78,14 +82,17 @@ loop-again : tie.Need-loop-again Inv-loop μ-loop
 loop-again c =
     let k = c .before .before .before .before in
     let l = k .loop in
-    let e = sym (c .before .is-digit .ensures) ∙ not-false (c .before .is-digit .result) (c .if1 .left) in
-    rw (c .before .before .byte-at .ensures)
-    (l .inv
-    ∙ digits-next (l .left) (l .value) (l .p) (k .before .before .args .text .now)
-    (c .before .before .before .loop-test .taken) (rw (c .before .before .byte-at .ensures) at e))
+    let e = sym (c .before .is-digit .ensures) ∙ not-false (c .before .is-digit .result) (c .if1 .left) in (
+      rw (c .before .before .byte-at .ensures)
+          (l .inv .0
+          ∙ digits-next (l .left) (l .value) (l .p) (k .before .before .args .text .now)
+          (c .before .before .before .loop-test .taken) (rw (c .before .before .byte-at .ensures) at e)),
+      omega (arith, in-text c),
+    )
 
 returns-2 : tie.Need-returns-2 Inv-loop μ-loop
-returns-2 c = let l = c .before .loop in l .inv ∙ digits-full (l .left) (l .value) _ (c .loop-test .left)
+returns-2 c =
+    let l = c .before .loop in (l .inv .0 ∙ digits-full (l .left) (l .value) _ (c .loop-test .left), l .inv .1)
 
 pub digits-spec : {M : Type 1} → statement M
 digits-spec =

@@ -36,7 +36,7 @@ module _ (c : tie.After-struct-known) where
   read =
       natural-found here (r .value) (drop (r .next) text)
       (rw (← test .before .before .byte-at .ensures, ← test .before .is-digit .ensures) (test .if1 .taken))
-      (c .before .digits .ensures)
+      (c .before .digits .ensures .0)
 
   small : r .value ≤ 999999
   small = natural-size here (r .value) (drop (r .next) text) read
@@ -63,16 +63,21 @@ sub-t11 : tie.Need-sub-t11
 sub-t11 c = simp (plain (c .before), +ℤ-idl) (negated-fits (c .before))
 
 returns : tie.Need-returns
-returns c = simp (read (c .before), plain (c .before), +ℤ-idl, toZ-ofZ (negated-fits (c .before)), c .if2 .taken)
+returns c = (
+  simp (read (c .before), plain (c .before), +ℤ-idl, toZ-ofZ (negated-fits (c .before)), c .if2 .taken),
+  c .before .before .digits .ensures .1,
+)
 
 returns-2 : tie.Need-returns-2
-returns-2 c = simp (read (c .before), plain (c .before), c .if2 .left)
+returns-2 c = (simp (read (c .before), plain (c .before), c .if2 .left), c .before .before .digits .ensures .1)
 
 returns-3 : tie.Need-returns-3
 returns-3 c =
-    let a = c .before .before .before .before .args in
-    rw (natural-missing (drop (a .at) (a .text .now))
-    (rw (← c .before .before .byte-at .ensures, ← c .before .is-digit .ensures) (c .if1 .left)))
+    let a = c .before .before .before .before .args in (
+      rw (natural-missing (drop (a .at) (a .text .now))
+          (rw (← c .before .before .byte-at .ensures, ← c .before .is-digit .ensures) (c .if1 .left))),
+      tt,
+    )
 
 pub signed-natural-spec : {M : Type 1} → statement M
 signed-natural-spec =
