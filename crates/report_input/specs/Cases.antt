@@ -15,9 +15,9 @@ use Rattle.report_input.specs.Input.{
   positionNames,
   Meaning,
   block,
+  numberIn,
   meaning,
 }
-use Rattle.report_input.specs.Private.{numberIn}
 
 -- a text with these lines of settings and of positions
 abbrev of : List ℕ → List ℕ → List ℕ

@@ -109,6 +109,11 @@ pub data Meaning : Type 0 where
   refused : ℕ → Meaning
   block : Settings → Block → Meaning
 
+-- the number of a meaning, 0 for a block
+abbrev pub numberIn : Meaning → ℕ
+numberIn (refused number) = number
+numberIn (block s b) = 0
+
 -- room for a block of any length, so that 7 can't be
 abbrev pub largestLengths : Lengths
 largestLengths =

@@ -35,6 +35,7 @@ use Rattle.report_input.specs.Input.{
   Meaning,
   refused,
   block,
+  numberIn,
   blockNumber,
   meaningBy,
   tested,
@@ -45,7 +46,7 @@ use Rattle.report_input.specs.Input.{
 }
 use Rattle.scan.specs.Lines.{line, literal}
 use Rattle.scan.specs.ScanLaws.{bind-found, written-sets}
-use Rattle.report_input.specs.Private.{positionsStored, numberIn}
+use Rattle.report_input.specs.Private.{positionsStored}
 use Rattle.report_input.specs.declared.Input.the-variants.{Accepted, Refused}
 
 -- ---- one line

@@ -3,4 +3,5 @@ pub mod Private
 pub mod InputLaws
 pub mod ReadLaws
 pub mod WholeNumbers
+pub mod WholeNumberLaws
 pub mod Cases

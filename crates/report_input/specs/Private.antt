@@ -11,9 +11,6 @@ use Rattle.report_input.specs.Input.{
   blockOf,
   above,
   readPosition,
-  Meaning,
-  refused,
-  block,
 }
 use Rattle.report_input.specs.declared.Head.{Head}
 use Rattle.report_input.specs.declared.Head.the-variants as head
@@ -51,10 +48,3 @@ unfoldable pub positionsStored : ℕ → ℕ → List ℕ → Block
 positionsStored zero p s = blockOf [] []
 positionsStored (suc n) p s =
     ifFound (readPosition p s) (blockOf [] []) (λ r s. above r (positionsStored n (suc p) s))
-
--- ---- the number of a meaning
-
--- 0 for a block
-abbrev pub numberIn : Meaning → ℕ
-numberIn (refused number) = number
-numberIn (block s b) = 0
