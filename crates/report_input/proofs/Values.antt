@@ -10,7 +10,7 @@ use lib.IntN.{ℤ, pos, negsuc, negℤ, natAbs}
 use lib.Signed.{ltZ, nonNeg}
 use mir.Syntax.{w16, w32}
 use mir.Val.{Fits, SFits}
-use Rattle.report_input.specs.Input.{outsideRanges, unsigned, llrValue}
+use Rattle.report_input.specs.Input.{outsideRanges, outsideLlr, unsigned, llrValue}
 
 -- ---- below zero, and not
 
@@ -32,7 +32,7 @@ pub below-all : (z : ℤ) → ltZ z (negsuc 32766) ≡ true → negsuc 32766 ≡
 below-all (pos n) e = absurd (true≢false (sym e))
 below-all (negsuc n) e =
     let h : 32766 < n = ltb-true 32766 n e in
-    let size : 32767 ≡ min (suc n) 32767 = omega arith in
+    let size : 32767 ≡ min (suc n) outsideLlr = omega arith in
     ap (λ (i : ℕ). negℤ (pos i)) size
 
 pub above-all : (z : ℤ) → ltZ (pos 32767) z ≡ true → pos 32767 ≡ llrValue z
@@ -49,5 +49,5 @@ narrow (pos n) low high =
     record { same = ap pos (omega arith); fits = record { sfits = omega arith } }
 narrow (negsuc n) low high =
     let h : n ≤ 32766 = ltb-false 32766 n low in
-    let size : suc n ≡ min (suc n) 32767 = omega arith in
+    let size : suc n ≡ min (suc n) outsideLlr = omega arith in
     record { same = ap (λ (i : ℕ). negℤ (pos i)) size; fits = record { sfits = omega arith } }

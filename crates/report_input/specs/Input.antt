@@ -29,6 +29,14 @@ longestText = 32768
 abbrev pub outsideRanges : ℕ
 outsideRanges = 1000000
 
+-- what a mask value beyond a byte counts as: it is no mask value either
+abbrev pub outsideMask : ℕ
+outsideMask = 255
+
+-- what the size of an LLR beyond 16 bits counts as: it is above every ceiling as well
+abbrev pub outsideLlr : ℕ
+outsideLlr = 32767
+
 -- ---- the first three lines
 
 abbrev pub settingNames : List ℕ
@@ -58,21 +66,23 @@ settingsOf zs =
       operand = unsigned (valueAt zs 5);
     }
 
-unfoldable pub head : List ℕ → Reading Settings
-head t =
+-- the values of the second line, between the two lines of names
+abbrev pub settingValues : List ℕ → Reading (List ℤ)
+settingValues t =
     bind (literal settingNames t) (λ _ s.
     bind (line 6 s) (λ zs s.
-    bind (literal positionNames s) (λ _ s. found (settingsOf zs) s)))
+    bind (literal positionNames s) (λ _ s. found zs s)))
+
+unfoldable pub head : List ℕ → Reading Settings
+head t = bind (settingValues t) (λ zs s. found (settingsOf zs) s)
 
 -- ---- the lines of the positions
 
--- a mask value; one beyond a byte counts as 255, which is no mask value either
 abbrev pub maskValue : ℤ → ℕ
-maskValue z = min (unsigned z) 255
+maskValue z = min (unsigned z) outsideMask
 
--- an LLR; one beyond 16 bits counts as 32,767 with its sign, which is above every ceiling as well
 abbrev pub llrValue : ℤ → ℤ
-llrValue z = flipped (isNegative z) (pos (min (natAbs z) 32767))
+llrValue z = flipped (isNegative z) (pos (min (natAbs z) outsideLlr))
 
 pub record PositionInput : Type 0 where
   pub frozen : ℕ

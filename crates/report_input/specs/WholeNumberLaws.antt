@@ -21,14 +21,17 @@ use Rattle.polar.specs.Code.{informationCount}
 use Rattle.settings.specs.Settings.{largestLimit, operandFits, slicesFit, withinCeiling, decodeNumber}
 use Rattle.scan.specs.Reading.{Reading, found, malformed, bind}
 use Rattle.scan.specs.Lines.{line}
-use Rattle.scan.specs.ScanLaws.{bind-found, bind-bind}
+use Rattle.scan.specs.ScanLaws.{bind-found}
 use Rattle.report_input.specs.Input.{
   longestText,
   outsideRanges,
+  outsideMask,
+  outsideLlr,
   valueAt,
   unsigned,
   maskValue,
   llrValue,
+  settingValues,
   settingsOf,
   head,
   PositionInput,
@@ -47,7 +50,6 @@ use Rattle.report_input.specs.Input.{
 }
 use Rattle.report_input.specs.InputLaws.{number-in}
 use Rattle.report_input.specs.WholeNumbers.{
-  settingValues,
   lineValues,
   column,
   isNumber,
@@ -99,7 +101,7 @@ mask-bit : (z : ℤ) → leb (maskValue z) 1 ≡ inRange 0 1 z
 mask-bit (pos zero) = refl
 mask-bit (pos (suc zero)) = refl
 mask-bit (pos (suc (suc n))) =
-    lt-leb (min (suc (suc n)) 255) 1 (omega arith)
+    lt-leb (min (suc (suc n)) outsideMask) 1 (omega arith)
     ∙ sym (rw (lt-leb (suc (suc n)) 1 (omega arith)) (and-false (leb 0 (suc (suc n)))))
 mask-bit (negsuc n) = refl
 
@@ -109,22 +111,23 @@ mask-zero (pos (suc n)) =
     ap (λ (k : ℕ). byKind k true (λ bit. false)) least
     ∙ sym (rw (lt-leb (suc n) 0 (omega arith)) (and-false (leb 0 (suc n))))
   where
-    least : min (suc n) 255 ≡ suc (min n 254)
+    least : min (suc n) outsideMask ≡ suc (min n 254)
     least = omega arith
 mask-zero (negsuc n) = refl
 
 -- 65,539 is no 3
 llr-size : (C : ℕ) (z : ℤ) → C ≤ largestCeiling → leb (natAbs (llrValue z)) C ≡ leb (natAbs z) C
-llr-size C z h = ap (λ (n : ℕ). leb n C) (size-flipped (isNegative z) (pos (min (natAbs z) 32767))) ∙ cut (natAbs z)
+llr-size C z h = ap (λ (n : ℕ). leb n C) (size-flipped (isNegative z) (pos (min (natAbs z) outsideLlr))) ∙ cut (natAbs z)
   where
-    cut : (n : ℕ) → leb (min n 32767) C ≡ leb n C
-    cut n = either (leb n 32767) refl
+    cut : (n : ℕ) → leb (min n outsideLlr) C ≡ leb n C
+    cut n = either (leb n outsideLlr) refl
       where
-        either : (small : Bool) → leb n 32767 ≡ small → leb (min n 32767) C ≡ leb n C
-        either true e = let le : n ≤ 32767 = leb-true n 32767 e in let same : min n 32767 ≡ n = omega arith in rw same
+        either : (small : Bool) → leb n outsideLlr ≡ small → leb (min n outsideLlr) C ≡ leb n C
+        either true e =
+            let le : n ≤ outsideLlr = leb-true n outsideLlr e in let same : min n outsideLlr ≡ n = omega arith in rw same
         either false e =
-            let gt : 32767 < n = leb-false n 32767 e in
-            lt-leb (min n 32767) C (omega arith) ∙ sym (lt-leb n C (omega arith))
+            let gt : outsideLlr < n = leb-false n outsideLlr e in
+            lt-leb (min n outsideLlr) C (omega arith) ∙ sym (lt-leb n C (omega arith))
 
 -- ---- the first n values
 
@@ -209,10 +212,6 @@ block-whole zs mask llr mask-long llr-long =
     )))))))
 
 -- ---- the lines of a text
-
-head-values : (t : List ℕ) → head t ≡ bind (settingValues t) (λ zs s. found (settingsOf zs) s)
-unfolding head settingValues
-head-values t = simp bind-bind
 
 abbrev blockIn : List (List ℤ) → Block
 blockIn lines = blockOf (map maskValue (column 1 lines)) (map llrValue (column 2 lines))
@@ -309,9 +308,9 @@ sized-whole (found zs s) =
 
 -- for every text, its number is that of its values as they are written
 pub compared-whole : (t : List ℕ) → numberIn (meaning t) ≡ wholeTextNumber t
-unfolding meaning wholeTextNumber
+unfolding head meaning wholeTextNumber
 compared-whole t = either (leb (length t) longestText)
   where
     either : (ok : Bool) → numberIn (cond ok (sized (head t)) (refused 14)) ≡ check ok 14 (wholeSized (settingValues t))
-    either true = rw (head-values t) (sized-whole (settingValues t))
+    either true = sized-whole (settingValues t)
     either false = refl

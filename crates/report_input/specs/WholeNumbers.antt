@@ -11,19 +11,12 @@ use Rattle.calls.specs.Bounds.{largestM, largestCeiling, largestScale}
 use Rattle.calls.specs.Numbers.{check, between}
 use Rattle.settings.specs.Settings.{largestLimit}
 use Rattle.scan.specs.Reading.{Reading, found, malformed, bind}
-use Rattle.scan.specs.Lines.{line, literal}
-use Rattle.report_input.specs.Input.{longestText, settingNames, positionNames, valueAt}
+use Rattle.scan.specs.Lines.{line}
+use Rattle.report_input.specs.Input.{longestText, valueAt, settingValues}
 
--- ---- the values of a text
+-- ---- the lines of the positions
 
--- those of the second line
-unfoldable pub settingValues : List ℕ → Reading (List ℤ)
-settingValues t =
-    bind (literal settingNames t) (λ _ s.
-    bind (line 6 s) (λ zs s.
-    bind (literal positionNames s) (λ _ s. found zs s)))
-
--- those of n lines of positions
+-- the values of n lines
 unfoldable pub lineValues : ℕ → List ℕ → Reading (List (List ℤ))
 lineValues zero s = found [] s
 lineValues (suc n) s =
@@ -34,8 +27,7 @@ lineValues (suc n) s =
 abbrev pub column : ℕ → List (List ℤ) → List ℤ
 column place lines = map (λ zs. valueAt zs place) lines
 
--- ---- tests of whole numbers
-
+-- the number p, with or without a minus where it is 0
 abbrev pub isNumber : ℕ → ℤ → Bool
 isNumber p (pos n) = eqb n p
 isNumber p (negsuc n) = false
@@ -44,6 +36,8 @@ isNumber p (negsuc n) = false
 abbrev pub numberedFrom : ℕ → List (List ℤ) → Bool
 numberedFrom p [] = true
 numberedFrom p (zs ∷ lines) = isNumber p (valueAt zs 0) && numberedFrom (suc p) lines
+
+-- ---- tests of whole numbers
 
 -- from low to high; a number below zero is in no range
 abbrev pub inRange : ℕ → ℕ → ℤ → Bool
