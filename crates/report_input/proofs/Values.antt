@@ -1,6 +1,6 @@
 -- The values of a line as the code tests and narrows them: a signed 32-bit number z is `toZ w32 (ofZ w32 z)` there,
 -- which is z where z fits.
-use Prim.Native.Nat.{ℕ, suc, _<_, _≤_, min}
+use Prim.Native.Nat.{ℕ, suc, _-_, _<_, _≤_, min}
 use mathlib.Core.Path.{_≡_, refl, sym, ap}
 use mathlib.Core.Bool.{true, false, true≢false}
 use native.Mathlib.Omega.{arith}
@@ -28,26 +28,26 @@ unsigned-fits (negsuc n) fits e = absurd (true≢false e)
 
 -- ---- within 16 bits, and beyond
 
-pub below-all : (z : ℤ) → ltZ z (negsuc 32766) ≡ true → negsuc 32766 ≡ llrValue z
+pub below-all : (z : ℤ) → ltZ z (negsuc (outsideLlr - 1)) ≡ true → negsuc (outsideLlr - 1) ≡ llrValue z
 below-all (pos n) e = absurd (true≢false (sym e))
 below-all (negsuc n) e =
-    let h : 32766 < n = ltb-true 32766 n e in
-    let size : 32767 ≡ min (suc n) outsideLlr = omega arith in
+    let h : outsideLlr - 1 < n = ltb-true (outsideLlr - 1) n e in
+    let size : outsideLlr ≡ min (suc n) outsideLlr = omega arith in
     ap (λ (i : ℕ). negℤ (pos i)) size
 
-pub above-all : (z : ℤ) → ltZ (pos 32767) z ≡ true → pos 32767 ≡ llrValue z
-above-all (pos n) e = let h : 32767 < n = ltb-true 32767 n e in ap pos (omega arith)
+pub above-all : (z : ℤ) → ltZ (pos outsideLlr) z ≡ true → pos outsideLlr ≡ llrValue z
+above-all (pos n) e = let h : outsideLlr < n = ltb-true outsideLlr n e in ap pos (omega arith)
 above-all (negsuc n) e = absurd (true≢false (sym e))
 
 pub record Narrow (z : ℤ) : Type 0 where
   pub same : z ≡ llrValue z
   pub fits : SFits w16 z
 
-pub narrow : (z : ℤ) → ltZ z (negsuc 32766) ≡ false → ltZ (pos 32767) z ≡ false → Narrow z
+pub narrow : (z : ℤ) → ltZ z (negsuc (outsideLlr - 1)) ≡ false → ltZ (pos outsideLlr) z ≡ false → Narrow z
 narrow (pos n) low high =
-    let h : n ≤ 32767 = ltb-false 32767 n high in
+    let h : n ≤ outsideLlr = ltb-false outsideLlr n high in
     record { same = ap pos (omega arith); fits = record { sfits = omega arith } }
 narrow (negsuc n) low high =
-    let h : n ≤ 32766 = ltb-false 32766 n low in
+    let h : n ≤ outsideLlr - 1 = ltb-false (outsideLlr - 1) n low in
     let size : suc n ≡ min (suc n) outsideLlr = omega arith in
     record { same = ap (λ (i : ℕ). negℤ (pos i)) size; fits = record { sfits = omega arith } }

@@ -1,6 +1,6 @@
 // Reads numbers, lines of values and fixed texts from a text of bytes, at positions.
 // It sees `calls` for its definitions. It promises that each reading finds what the definitions of specs/ find, and
-// where the text goes on: at a position within it, or at its end, if the position handed in is one too.
+// where the text goes on. A position, handed in or answered, is that of a byte of the text or of its end.
 ghost use mathlib.Core.Path.{_≡_};
 ghost use Prim.Native.Nat.{_≤_};
 ghost use lib.Dec.{eqb};
