@@ -148,7 +148,8 @@ storedFrom i b old = blockOf (sets (old .mask) i (b .mask)) (sets (old .llr) i (
 -- where i of n lines are stored: one more
 pub stored-positions-next : (n i : ℕ) (s t mask : List ℕ) (llr : List ℤ) (r : PositionInput) → i < n
     → readPosition i s ≡ found r t
-    → storedFrom (i + 1) (positionsStored (n - (i + 1)) (i + 1) t) (blockOf (set mask i (r .frozen)) (set llr i (r .llr)))
+    → storedFrom (i + 1) (positionsStored (n - (i + 1)) (i + 1) t)
+    (blockOf (set mask i (r .frozen)) (set llr i (r .llr)))
     ≡ storedFrom i (positionsStored (n - i) i s) (blockOf mask llr)
 unfolding positionsStored
 stored-positions-next n i s t mask llr r h e =
@@ -322,7 +323,8 @@ pub read-accepted : (s : Settings) (u : List ℕ) (n : ℕ) {old new : Block}
     → InputRead (tested s (readPositions (2 ^ s .m) 0 u)) old new (Accepted s)
 read-accepted s u n {old} none size stored =
     let whole = accepted-block s (readPositions (2 ^ s .m) 0 u) none in
-    let same = ap (λ (k : ℕ). positionsStored k 0 u) size ∙ stored-positions (2 ^ s .m) 0 u (whole .b) [] (whole .read) in
+    let same = ap (λ (k : ℕ). positionsStored k 0 u) size
+    ∙ stored-positions (2 ^ s .m) 0 u (whole .b) [] (whole .read) in
     rw (whole .means) (record { answer = refl; after-is = stored ∙ ap (λ (b : Block). blockOver b old) same })
 
 pub meaning-long : (t : List ℕ) → longestText < length t → meaning t ≡ refused 14

@@ -117,14 +117,16 @@ mask-zero (negsuc n) = refl
 
 -- 65,539 is no 3
 llr-size : (C : ℕ) (z : ℤ) → C ≤ largestCeiling → leb (natAbs (llrValue z)) C ≡ leb (natAbs z) C
-llr-size C z h = ap (λ (n : ℕ). leb n C) (size-flipped (isNegative z) (pos (min (natAbs z) outsideLlr))) ∙ cut (natAbs z)
+llr-size C z h =
+    ap (λ (n : ℕ). leb n C) (size-flipped (isNegative z) (pos (min (natAbs z) outsideLlr))) ∙ cut (natAbs z)
   where
     cut : (n : ℕ) → leb (min n outsideLlr) C ≡ leb n C
     cut n = either (leb n outsideLlr) refl
       where
         either : (small : Bool) → leb n outsideLlr ≡ small → leb (min n outsideLlr) C ≡ leb n C
         either true e =
-            let le : n ≤ outsideLlr = leb-true n outsideLlr e in let same : min n outsideLlr ≡ n = omega arith in rw same
+            let le : n ≤ outsideLlr = leb-true n outsideLlr e in
+            let same : min n outsideLlr ≡ n = omega arith in rw same
         either false e =
             let gt : outsideLlr < n = leb-false n outsideLlr e in
             lt-leb (min n outsideLlr) C (omega arith) ∙ sym (lt-leb n C (omega arith))

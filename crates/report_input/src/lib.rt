@@ -153,7 +153,8 @@ fn read_positions(text: &[u8], at: usize, n: usize, mask: &mut [u8], llr: &mut [
         ≡ readTo (now (text .entry)) (firstOf n (blockOf (now (mask .exit)) (now (llr .exit)))) r ⌝ }
     ensures { λ r. ⌜ Within (now (text .entry)) r ⌝ }
     ensures { λ _. ⌜ blockOf (now (mask .exit)) (now (llr .exit))
-        ≡ blockOver (positionsStored n 0 (drop at (now (text .entry)))) (blockOf (now (mask .entry)) (now (llr .entry))) ⌝ }
+        ≡ blockOver (positionsStored n 0 (drop at (now (text .entry))))
+        (blockOf (now (mask .entry)) (now (llr .entry))) ⌝ }
 {
     let mut i = 0;
     let mut next = at;

@@ -27,7 +27,8 @@ enum-known-settings c = search needs
 
 read-block-requires : tie.Need-read-block-requires
 read-block-requires c κs =
-    let told = c .before .before .before in rw (told .settings .given .1) at (told .before .before .read-head .ensures .1)
+    let told = c .before .before .before in
+    rw (told .settings .given .1) at (told .before .before .read-head .ensures .1)
 
 returns-2 : tie.Need-returns-2
 returns-2 c =

@@ -118,7 +118,8 @@ returns-4 c =
     let called = c .before .before .before .before .before .literal2 .ensures in
     let told = c .before .before .before .names2 .given .1 in
     let third = called .0 ∙ ap (readTo (t two) tt) told in (
-      head-found (t two) _ _ _ (values two) (first (behind-first two)) (second two) third ∙ rw (c .settings-of .ensures),
+      head-found (t two) _ _ _ (values two) (first (behind-first two)) (second two) third
+          ∙ rw (c .settings-of .ensures),
       rw told at (called .1),
     )
 

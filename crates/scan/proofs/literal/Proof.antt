@@ -26,7 +26,8 @@ returns c =
     let l = c .before .before .loop in
     let a = c .before .before .before .before .before .args in (
       l .inv .0
-          ∙ literal-short (a .name .now) (l .matched) (a .text .now) (l .p) (c .before .loop-test .taken) (c .if1 .taken),
+          ∙ literal-short (a .name .now) (l .matched) (a .text .now) (l .p) (c .before .loop-test .taken)
+          (c .if1 .taken),
       tt,
     )
 

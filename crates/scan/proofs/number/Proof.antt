@@ -36,7 +36,8 @@ returns c =
     let k = c .before .before in
     let a = k .before .before .before .args in (
       number-minus (a .at) (a .text .now)
-          (rw (← k .before .byte-at .ensures, ← k .is-minus .ensures) (c .before .if1 .taken)) ∙ c .signed-natural .ensures .0,
+          (rw (← k .before .byte-at .ensures, ← k .is-minus .ensures) (c .before .if1 .taken))
+          ∙ c .signed-natural .ensures .0,
       c .signed-natural .ensures .1,
     )
 
