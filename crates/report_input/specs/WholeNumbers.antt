@@ -27,7 +27,7 @@ lineValues (suc n) s =
 abbrev pub column : ℕ → List (List ℤ) → List ℤ
 column place lines = map (λ zs. valueAt zs place) lines
 
--- the number p, with or without a minus where it is 0
+-- p itself; a number below zero is no position
 abbrev pub isNumber : ℕ → ℤ → Bool
 isNumber p (pos n) = eqb n p
 isNumber p (negsuc n) = false

@@ -21,23 +21,11 @@ use Rattle.scan.specs.Answers.{writtenOver, valuesStored}
 -- ---- one reading after another
 
 module _ {A B : Type 0} where
-  pub bind-of-found : {r : Reading A} {a : A} {s : List ℕ} (next : A → List ℕ → Reading B) → r ≡ found a s
-      → bind r next ≡ next a s
-  bind-of-found next e = rw e
-
-  pub bind-of-malformed : {r : Reading A} (next : A → List ℕ → Reading B) → r ≡ malformed → bind r next ≡ malformed
-  bind-of-malformed next e = rw e
-
   -- where two readings have found something, each has
   pub bind-found : (r : Reading A) (next : A → List ℕ → Reading B) (b : B) (u : List ℕ) → bind r next ≡ found b u →
       (a : A) × (s : List ℕ) × (r ≡ found a s) × (next a s ≡ found b u)
   bind-found (found a s) next b u e = (a, s, refl, e)
   bind-found malformed next b u e = let h : _≡_ {A = ℕ} 0 1 = cc in absurd (omega arith)
-
-  pub bind-bind : {C : Type 0} (r : Reading A) (next : A → List ℕ → Reading B) (last : B → List ℕ → Reading C) →
-      bind (bind r next) last ≡ bind r (λ a s. bind (next a s) last)
-  bind-bind (found a s) next last = refl
-  bind-bind malformed next last = refl
 
 -- ---- lent memory
 
