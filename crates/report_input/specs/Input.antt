@@ -7,6 +7,7 @@ use lib.Dec.{leb, eqb}
 use lib.IntN.{ℤ, pos, negsuc, natAbs}
 use lib.ListN.{length, getD}
 use Rattle.calls.specs.Bounds.{largestM, mostPositions, mostWorkspace}
+use Rattle.calls.specs.LentMemory.{writtenOver}
 use Rattle.calls.specs.Numbers.{between, refusalNumber}
 use Rattle.calls.specs.Signs.{isNegative, flipped}
 use Rattle.settings.specs.declared.Settings.{Settings}
@@ -14,7 +15,6 @@ use Rattle.settings.specs.declared.Lengths.{Lengths}
 use Rattle.settings.specs.Settings.{decodeNumber}
 use Rattle.scan.specs.Reading.{Reading, found, malformed, bind}
 use Rattle.scan.specs.Lines.{line, literal}
-use Rattle.scan.specs.Answers.{writtenOver}
 use Rattle.calls.specs.Texts.{bytes}
 use Rattle.report_input.specs.declared.Input.{Input}
 use Rattle.report_input.specs.declared.Input.the-variants.{Accepted, Refused}

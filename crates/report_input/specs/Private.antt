@@ -1,5 +1,5 @@
 -- For the contracts of private functions: what their answers say of the text t that they read, and what they leave in
--- the memory that they are lent. Definitions only.
+-- the memory that they are lent.
 use Prim.Native.Nat.{ℕ, zero, suc, _≤_}
 use mathlib.Core.List.{List, []}
 use lib.ListN.{length, drop, take}

@@ -6,7 +6,7 @@ ghost use Prim.Native.Nat.{_≤_, _<_, _^_};
 ghost use lib.ListN.{length, drop};
 ghost use Rattle.calls.specs.Bounds.{largestM};
 ghost use Rattle.calls.specs.Numbers.{numberOf, between};
-ghost use Rattle.scan.specs.Answers.{readTo, Within};
+ghost use Rattle.scan.specs.Answers.{readTo, NextWithin};
 ghost use Rattle.scan.specs.Reading.{found};
 ghost use Rattle.report_input.specs.Input.{valueAt, unsigned, maskValue, llrValue, settingsOf, head};
 ghost use Rattle.report_input.specs.Input.{readPosition, readPositions, blockOf, blockOver};
@@ -151,7 +151,7 @@ fn read_positions(text: &[u8], at: usize, n: usize, mask: &mut [u8], llr: &mut [
     requires { ⌜ (at ≤ length (now text)) × (n ≤ length (now mask)) × (n ≤ length (now llr)) ⌝ }
     ensures { λ r. ⌜ readPositions n 0 (drop at (now (text .entry)))
         ≡ readTo (now (text .entry)) (firstOf n (blockOf (now (mask .exit)) (now (llr .exit)))) r ⌝ }
-    ensures { λ r. ⌜ Within (now (text .entry)) r ⌝ }
+    ensures { λ r. ⌜ NextWithin (now (text .entry)) r ⌝ }
     ensures { λ _. ⌜ blockOf (now (mask .exit)) (now (llr .exit))
         ≡ blockOver (positionsStored n 0 (drop at (now (text .entry))))
         (blockOf (now (mask .entry)) (now (llr .entry))) ⌝ }

@@ -1,7 +1,7 @@
--- What the answers of the code say of the text t that it reads, and what it leaves in the memory that it is lent.
--- Definitions only.
+-- For the contracts of functions that no user calls: what their answers say of the text t that they read, and what they
+-- leave in the memory that they are lent.
 use Prim.Native.Nat.{ℕ, zero, suc, _≤_}
-use mathlib.Core.List.{List, [], _∷_, _++_}
+use mathlib.Core.List.{List, [], _∷_}
 use lib.IntN.{ℤ}
 use lib.ListN.{length, drop}
 use Rattle.scan.specs.Reading.{Reading, found, malformed, ifFound}
@@ -30,16 +30,11 @@ abbrev pub ValueWithin : List ℕ → Value → Type 0
 ValueWithin t (Found z next) = next ≤ length t
 ValueWithin t Missing = Unit
 
-abbrev pub Within : List ℕ → Next → Type 0
-Within t (At next) = next ≤ length t
-Within t Malformed = Unit
+abbrev pub NextWithin : List ℕ → Next → Type 0
+NextWithin t (At next) = next ≤ length t
+NextWithin t Malformed = Unit
 
 -- ---- lent memory
-
--- values from the first element on, the old contents behind them
-module _ {A : Type 0} where
-  abbrev pub writtenOver : List A → List A → List A
-  writtenOver values old = values ++ drop (length values) old
 
 -- the values of a line of n that are stored: all of them, or those before the first fault. A value is stored once what
 -- stands behind it has been read too

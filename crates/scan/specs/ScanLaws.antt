@@ -16,7 +16,8 @@ use Rattle.calls.specs.SignLaws.{size-neg}
 use Rattle.scan.specs.Reading.{Reading, found, malformed, bind, ifFound, first, rest}
 use Rattle.scan.specs.Numbers.{isDigit, digits, natural, number}
 use Rattle.scan.specs.Lines.{spaces, separator, line, literal}
-use Rattle.scan.specs.Answers.{writtenOver, valuesStored}
+use Rattle.calls.specs.LentMemory.{writtenOver}
+use Rattle.scan.specs.Answers.{valuesStored}
 
 -- ---- one reading after another
 

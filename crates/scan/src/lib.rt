@@ -6,11 +6,12 @@ ghost use Prim.Native.Nat.{_≤_};
 ghost use lib.Dec.{eqb};
 ghost use lib.IntN.{pos};
 ghost use lib.ListN.{length, drop, take};
+ghost use Rattle.calls.specs.LentMemory.{writtenOver};
 ghost use Rattle.calls.specs.Signs.{flipped};
 ghost use Rattle.scan.specs.Reading.{first, found, bind};
 ghost use Rattle.scan.specs.Numbers.{isDigit, digits, natural, number};
 ghost use Rattle.scan.specs.Lines.{spaces, separator, line, literal};
-ghost use Rattle.scan.specs.Answers.{valueRead, readTo, ValueWithin, Within, writtenOver, valuesStored};
+ghost use Rattle.scan.specs.Answers.{valueRead, readTo, ValueWithin, NextWithin, valuesStored};
 
 // A value and the position behind it.
 pub enum Value {
@@ -156,7 +157,7 @@ fn spaces(text: &[u8], at: usize) -> usize
 fn separator(text: &[u8], at: usize, more: usize) -> Next
     requires { ⌜ at ≤ length (now text) ⌝ }
     ensures { λ r. ⌜ separator more (drop at (now (text .entry))) ≡ readTo (now (text .entry)) tt r ⌝ }
-    ensures { λ r. ⌜ Within (now (text .entry)) r ⌝ }
+    ensures { λ r. ⌜ NextWithin (now (text .entry)) r ⌝ }
 {
     let b = byte_at(text, at);
     if more == 0 {
@@ -179,7 +180,7 @@ pub fn line(text: &[u8], at: usize, count: usize, values: &mut [i32]) -> Next
     requires { ⌜ (at ≤ length (now text)) × (count ≤ length (now values)) ⌝ }
     ensures { λ r. ⌜ line count (drop at (now (text .entry)))
         ≡ readTo (now (text .entry)) (take count (now (values .exit))) r ⌝ }
-    ensures { λ r. ⌜ Within (now (text .entry)) r ⌝ }
+    ensures { λ r. ⌜ NextWithin (now (text .entry)) r ⌝ }
     ensures { λ _. ⌜ now (values .exit)
         ≡ writtenOver (valuesStored count (drop at (now (text .entry)))) (now (values .entry)) ⌝ }
 {
@@ -211,7 +212,7 @@ pub fn line(text: &[u8], at: usize, count: usize, values: &mut [i32]) -> Next
 pub fn literal(text: &[u8], at: usize, name: &[u8]) -> Next
     requires { ⌜ at ≤ length (now text) ⌝ }
     ensures { λ r. ⌜ literal (now (name .entry)) (drop at (now (text .entry))) ≡ readTo (now (text .entry)) tt r ⌝ }
-    ensures { λ r. ⌜ Within (now (text .entry)) r ⌝ }
+    ensures { λ r. ⌜ NextWithin (now (text .entry)) r ⌝ }
 {
     let mut matched: usize = 0;
     let mut p = at;

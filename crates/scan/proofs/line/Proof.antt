@@ -11,7 +11,8 @@ use lib.Seq.{sets}
 use Rattle.scan.specs.Reading.{found}
 use Rattle.scan.specs.Numbers.{number}
 use Rattle.scan.specs.Lines.{separator, line}
-use Rattle.scan.specs.Answers.{valueRead, readTo, writtenOver, valuesStored}
+use Rattle.calls.specs.LentMemory.{writtenOver}
+use Rattle.scan.specs.Answers.{valueRead, readTo, valuesStored}
 use Rattle.scan.specs.ScanLaws.{
   behind,
   behind-none,
