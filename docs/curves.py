@@ -1,21 +1,29 @@
 #!/usr/bin/env python3
 """Draws curves.svg from curves.csv: frame error rate and iterations of the proved decoder over Eb/N0, by criterion.
 
+Each frame error rate has its 95 % interval (Wilson); a point of fewer than 50 frame errors is hollow.
 The data: bench/run curves > docs/curves.csv. Standard library only.
 """
 
 import csv
 import math
+import textwrap
 from pathlib import Path
 
 HERE = Path(__file__).parent
+# for each criterion its name, its colour, and how far its error rates stand beside their Eb/N0, in pixels
 NAMES = {
-    "0": ("criterion 0: never", "#c8c8c8", 9),
-    "1": ("criterion 1: G-matrix", "#0b6fb8", 5),
-    "2": ("criterion 2: least size", "#e8862e", 3),
-    "3": ("criterion 3: steady marks", "#1d5c33", 1.2),
+    "0": ("criterion 0: never", "#8a8a8a", -7.5),
+    "1": ("criterion 1: G-matrix", "#0b6fb8", -2.5),
+    "2": ("criterion 2: least size", "#e8862e", 2.5),
+    "3": ("criterion 3: steady marks", "#1d7a3e", 7.5),
 }
-WIDTH, HEIGHT, TOP, BOTTOM = 420, 340, 56, 60
+NOTES = [
+    "Frame error rate: the bar is the 95 % interval (Wilson); a hollow point has fewer than 50 frame errors.",
+    "At each Eb/N0 the four criteria stand side by side, since their error rates nearly coincide.",
+]
+WIDTH, HEIGHT, TOP, BOTTOM = 500, 420, 56, 60
+FEW = 50
 
 
 def read():
@@ -26,6 +34,14 @@ def read():
         curves.setdefault(row["criterion"], []).append(point)
         operands[row["criterion"]] = row["operand"]
     return curves, operands
+
+
+def wilson(wrong, blocks, z=1.96):
+    """The ends of the 95 % interval of a rate."""
+    rate, scale = wrong / blocks, 1 + z * z / blocks
+    centre = (rate + z * z / (2 * blocks)) / scale
+    half = z / scale * math.sqrt(rate * (1 - rate) / blocks + z * z / (4 * blocks * blocks))
+    return centre - half, centre + half
 
 
 class Panel:
@@ -64,40 +80,58 @@ class Panel:
         self.text((self.x(low) + self.x(high)) / 2, HEIGHT - BOTTOM + 38, "Eb/N0 in dB")
         self.text(self.x(low), TOP - 16, self.title, "start", 14, "bold")
 
-    def curve(self, points, colour, width):
-        """Curves that coincide stay visible: each is drawn thinner than the one beneath it."""
-        places = [(self.x(db), self.y(value)) for db, value in points]
-        path = " ".join(f"{x:.1f},{y:.1f}" for x, y in places)
+    def curve(self, points, colour, beside=0):
+        """Points are Eb/N0, value, the ends of its interval or None, and whether it is hollow."""
+        places = [(self.x(db) + beside, self.y(value), ends, hollow) for db, value, ends, hollow in points]
+        path = " ".join(f"{x:.1f},{y:.1f}" for x, y, _, _ in places)
         self.parts.append(
-            f'<polyline points="{path}" fill="none" stroke="{colour}" stroke-width="{width}" stroke-linejoin="round"/>')
-        radius = width / 2 + 1.2
-        self.parts += [f'<circle cx="{x:.1f}" cy="{y:.1f}" r="{radius:.1f}" fill="{colour}"/>' for x, y in places]
+            f'<polyline points="{path}" fill="none" stroke="{colour}" stroke-width="1.5" stroke-linejoin="round"/>')
+        for x, y, ends, hollow in places:
+            if ends:
+                low, high = self.y(ends[0]), self.y(ends[1])
+                self.parts.append(
+                    f'<path d="M{x:.1f} {low:.1f}V{high:.1f}M{x - 2:.1f} {low:.1f}h4M{x - 2:.1f} {high:.1f}h4" '
+                    f'stroke="{colour}"/>')
+            fill = "white" if hollow else colour
+            self.parts.append(
+                f'<circle cx="{x:.1f}" cy="{y:.1f}" r="2.4" fill="{fill}" stroke="{colour}" stroke-width="1.2"/>')
+
+
+def wrapped(element):
+    """Lines of at most 120 characters. They end within the tag alone: an end within a text would join two words."""
+    tag, text = element.split(">", 1)
+    lines = textwrap.wrap(tag, 119, break_long_words=False, break_on_hyphens=False)
+    end = "\n>" if len(lines[-1] + text) > 119 else ">"
+    return "\n".join(lines) + end + text
 
 
 def main():
     curves, operands = read()
     ratios = sorted({point[0] for points in curves.values() for point in points})
-    x_range, x_ticks = (ratios[0], ratios[-1]), [db for db in ratios if db * 2 == round(db * 2)]
+    x_range, x_ticks = (ratios[0] - 0.1, ratios[-1] + 0.1), [db for db in ratios if db * 2 == round(db * 2)]
     errors = Panel(70, "Frame error rate", x_range, (1e-4, 1), True)
     errors.axes(x_ticks, [(1, "1"), (0.1, "0.1"), (0.01, "0.01"), (1e-3, "0.001"), (1e-4, "0.0001")])
     iterations = Panel(70 + WIDTH + 20, "Iterations on average (limit 50)", x_range, (0, 50), False)
     iterations.axes(x_ticks, [(value, str(value)) for value in range(0, 51, 10)])
     legend = []
     for place, (criterion, points) in enumerate(sorted(curves.items())):
-        name, colour, width = NAMES[criterion]
-        rates = [(db, max(wrong / blocks, 1e-4)) for db, blocks, wrong, _ in points if wrong > 0]
-        errors.curve(rates, colour, width)
-        iterations.curve([(db, total / blocks) for db, blocks, _, total in points], colour, width)
+        name, colour, beside = NAMES[criterion]
+        rates = [(db, wrong / blocks, wilson(wrong, blocks), wrong < FEW)
+                 for db, blocks, wrong, _ in points if wrong > 0]
+        errors.curve(rates, colour, beside)
+        iterations.curve([(db, total / blocks, None, False) for db, blocks, _, total in points], colour)
         operand = f", operand {operands[criterion]}" if operands[criterion] != "0" else ""
-        x, y = 36 + 230 * place, HEIGHT + 8
-        legend.append(
-            f'<rect x="{x}" y="{y}" width="18" height="4" fill="{colour}"/>'
-            f'<text x="{x + 24}" y="{y + 6}" font-size="11" fill="#222">{name}{operand}</text>')
-    body = "\n".join(errors.parts + iterations.parts + legend)
-    width = 2 * WIDTH + 120
+        x, y = 36 + 260 * place, HEIGHT + 8
+        legend += [
+            f'<rect x="{x}" y="{y}" width="18" height="4" fill="{colour}"/>',
+            f'<text x="{x + 24}" y="{y + 6}" font-size="11" fill="#222">{name}{operand}</text>']
+    for place, note in enumerate(NOTES):
+        legend.append(f'<text x="36" y="{HEIGHT + 36 + 16 * place}" font-size="11" fill="#222">{note}</text>')
+    body = "\n".join(wrapped(element) for element in errors.parts + iterations.parts + legend)
+    width, height = 2 * WIDTH + 120, HEIGHT + 66
     (HERE / "curves.svg").write_text(
-        f'<svg xmlns="http://www.w3.org/2000/svg" viewBox="0 0 {width} {HEIGHT + 30}" width="{width}" '
-        f'height="{HEIGHT + 30}" font-family="sans-serif">\n'
+        f'<svg xmlns="http://www.w3.org/2000/svg" viewBox="0 0 {width} {height}" width="{width}" '
+        f'height="{height}" font-family="sans-serif">\n'
         f'<rect width="100%" height="100%" fill="white"/>\n{body}\n</svg>\n'
     )
 
