@@ -1,7 +1,14 @@
-// What only this program prints: the code of a call.
+// What only this program prints: the parts of a line that several calls share.
 
-// The code of a call of the coder or the read-out: m and the mask.
-pub fn code(m: u32, mask: &[u8]) {
-    console::number(b" m=", m);
+// What a call of the coder or the read-out is handed: m and the mask, and the bytes behind their name.
+pub fn handed(call: &[u8], m: u32, mask: &[u8], name: &[u8], bytes: &[u8]) {
+    console::number(call, m);
     console::bytes(b" mask", mask);
+    console::bytes(name, bytes);
+}
+
+// The slice that a call was lent, and the end of the line.
+pub fn lent(name: &[u8], slice: &[u8]) {
+    console::bytes(name, slice);
+    console::text(b"\n");
 }

@@ -1,5 +1,5 @@
-// Blocks through the decoder as it is compiled: document 01's blocks worked by hand, every
-// refusal, and one message the whole way.
+// Blocks through the decoder as it is compiled: document 01's blocks worked by hand, an example of each refusal, and
+// one message the whole way.
 // A line for each call gives what it is handed, its answer, and the slices afterwards.
 mod refused;
 mod say;
@@ -7,12 +7,12 @@ mod small;
 mod whole;
 
 fn main() {
-    small::first_blocks();
+    small::decided();
+    small::undecided();
     small::other_criteria();
     small::four_positions();
-    small::accepted_ends();
+    small::longer();
     refused::ranges();
-    refused::criteria();
     refused::slices();
     refused::blocks();
     whole::link();

@@ -1,15 +1,18 @@
 // What only this program prints: the decoder's answer and its settings.
 use calls::Answer;
 use decoder::Outcome;
+use decoder::Reason;
 use settings::Settings;
+
+fn ended(iterations: u32, why: Reason) {
+    console::number(b" answer ", iterations);
+    console::number(b" ", decoder::reason_number(why));
+}
 
 // The decoder's answer: the iteration and the reason, or the number of its refusal.
 pub fn outcome(outcome: Outcome) {
     match outcome {
-        Outcome::Ended(iterations, why) => {
-            console::number(b" answer ", iterations);
-            console::number(b" ", decoder::reason_number(why));
-        }
+        Outcome::Ended(iterations, why) => ended(iterations, why),
         Outcome::Refused(refusal) => {
             console::number(b" answer refused ", calls::number(Answer::Refused(refusal)));
         }
@@ -17,16 +20,10 @@ pub fn outcome(outcome: Outcome) {
 }
 
 pub fn settings(settings: Settings) {
-    let m = settings.m;
-    let ceiling = settings.ceiling;
-    let scale = settings.scale;
-    let limit = settings.limit;
-    let criterion = settings.criterion;
-    let operand = settings.operand;
-    console::number(b" m=", m);
-    console::number(b" C=", ceiling);
-    console::number(b" k=", scale);
-    console::number(b" T=", limit);
-    console::number(b" criterion ", criterion);
-    console::number(b" operand ", operand);
+    console::number(b" m=", settings.m);
+    console::number(b" C=", settings.ceiling);
+    console::number(b" k=", settings.scale);
+    console::number(b" T=", settings.limit);
+    console::number(b" criterion ", settings.criterion);
+    console::number(b" operand ", settings.operand);
 }

@@ -1,8 +1,27 @@
-// The decoder's small blocks: those that document 01 works by hand, and values at the ends of what is accepted.
-// Every slice that is lent to be written is one element longer than needed and held
-// nines before, so each list ends in 9.
+// The decoder's small blocks: those that document 01 works by hand.
+// Every slice that is lent to be written is one element longer than needed and held nines before, so each list ends in
+// 9.
 use crate::say;
 use settings::Settings;
+
+// What a call is handed.
+fn before(name: &[u8], settings: Settings, mask: &[u8], llr: &[i16]) {
+    console::text(b"decode ");
+    console::text(name);
+    say::settings(settings);
+    console::bytes(b" mask", mask);
+    console::values(b" llr", llr);
+}
+
+// The slices that it was lent.
+fn after(soft: &[i16], mark: &[u8], coded_soft: &[i16], coded_mark: &[u8], work: &[i16]) {
+    console::values(b" soft", soft);
+    console::bytes(b" mark", mark);
+    console::values(b" coded", coded_soft);
+    console::bytes(b" codedmark", coded_mark);
+    console::values(b" work", work);
+    console::text(b"\n");
+}
 
 // One call of the decoder: what it is handed, its answer, and the lent slices afterwards.
 pub fn decode(
@@ -16,11 +35,7 @@ pub fn decode(
     coded_mark: &mut [u8],
     work: &mut [i16],
 ) {
-    console::text(b"decode ");
-    console::text(name);
-    say::settings(settings);
-    console::bytes(b" mask", mask);
-    console::values(b" llr", llr);
+    before(name, settings, mask, llr);
     say::outcome(decoder::decode(
         settings,
         mask,
@@ -31,12 +46,7 @@ pub fn decode(
         coded_mark,
         work,
     ));
-    console::values(b" soft", soft);
-    console::bytes(b" mark", mark);
-    console::values(b" coded", coded_soft);
-    console::bytes(b" codedmark", coded_mark);
-    console::values(b" work", work);
-    console::text(b"\n");
+    after(soft, mark, coded_soft, coded_mark, work);
 }
 
 // The same with slices for two positions.
@@ -71,21 +81,30 @@ pub fn of(scale: u32, limit: u32, criterion: u32, operand: u32) -> Settings {
     }
 }
 
-// P1 to P5.
-pub fn first_blocks() {
-    pair(b"P1", of(16, 10, 1, 0), &[1, 0], &[5, -3]);
+// The mask and LLRs of P1, with settings of the caller's.
+pub fn first(name: &[u8], settings: Settings) {
+    pair(name, settings, &[1, 0], &[5, -3]);
+}
+
+// P1 to P3.
+pub fn decided() {
+    first(b"P1", of(16, 10, 1, 0));
     pair(b"P2", of(16, 10, 1, 0), &[1, 0], &[-5, 3]);
-    pair(b"P3", of(15, 10, 1, 0), &[1, 0], &[5, -3]);
+    first(b"P3", of(15, 10, 1, 0));
+}
+
+// P4 and P5: ties.
+pub fn undecided() {
     pair(b"P4", of(16, 10, 1, 0), &[1, 0], &[3, -3]);
     pair(b"P5", of(16, 10, 1, 0), &[0, 1], &[7, -31]);
 }
 
 // P6 and P7: the least size, and steady marks.
 pub fn other_criteria() {
-    pair(b"P6", of(16, 10, 2, 2), &[1, 0], &[5, -3]);
-    pair(b"P6", of(16, 10, 2, 3), &[1, 0], &[5, -3]);
-    pair(b"P7", of(16, 10, 3, 1), &[1, 0], &[5, -3]);
-    pair(b"P7", of(16, 1, 3, 1), &[1, 0], &[5, -3]);
+    first(b"P6", of(16, 10, 2, 2));
+    first(b"P6", of(16, 10, 2, 3));
+    first(b"P7", of(16, 10, 3, 1));
+    first(b"P7", of(16, 1, 3, 1));
 }
 
 // P8, of four positions.
@@ -116,10 +135,7 @@ pub fn four_positions() {
     );
 }
 
-// LLRs of the ceiling's size, the highest limit, and a mask and LLRs that are longer than
-// needed: what lies behind is not read.
-pub fn accepted_ends() {
-    pair(b"accepted", of(16, 10, 1, 0), &[1, 0], &[31, -31]);
-    pair(b"accepted", of(16, 200, 1, 0), &[1, 0], &[3, -3]);
+// A mask and LLRs that are longer than needed: what lies behind is not read.
+pub fn longer() {
     pair(b"accepted", of(16, 3, 0, 0), &[1, 0, 7], &[5, -3, 99]);
 }

@@ -1,88 +1,22 @@
 // One message the whole way, over 64 positions: coder, samples with six errors, front, decoder, read-out.
-// The slices are too long to print whole: soft outputs, coded soft outputs and workspace are shown by a checksum.
-ghost use Prim.Native.Nat.{_<_, _≤_};
+ghost use Prim.Native.Nat.{_≤_};
 ghost use lib.ListN.{length};
 use crate::say;
 use channel::Channel;
 use polar::Code;
 use settings::Settings;
 
-// 32 of the 64 positions are frozen.
-const MASK: [u8; 64] = [
-    1,
-    1,
-    1,
-    1,
-    1,
-    1,
-    1,
-    0,
-    1,
-    1,
-    1,
-    0,
-    1,
-    0,
-    0,
-    0,
-    1,
-    1,
-    1,
-    0,
-    1,
-    0,
-    0,
-    0,
-    1,
-    0,
-    1,
-    0,
-    1,
-    0,
-    0,
-    0,
-    1,
-    1,
-    1,
-    0,
-    1,
-    0,
-    1,
-    0,
-    1,
-    1,
-    1,
-    0,
-    1,
-    0,
-    0,
-    0,
-    1,
-    1,
-    1,
-    0,
-    1,
-    0,
-    0,
-    0,
-    1,
-    0,
-    0,
-    0,
-    0,
-    0,
-    0,
-    0,
-];
-
-fn message_bit(i: usize) -> u8 {
-    if i % 5 < 2 { 1 } else { 0 }
+fn bit(digit: u8) -> u8 {
+    if digit == b'1' { 1 } else { 0 }
 }
 
-fn fill_message(message: &mut [u8]) {
+// The bits that the digits 0 and 1 write.
+fn fill_bits(digits: &[u8], bits: &mut [u8])
+    requires { ⌜ length (now bits) ≤ length (now digits) ⌝ }
+{
     let mut i = 0;
-    while i < message.len() {
-        message[i] = message_bit(i);
+    while i < bits.len() {
+        bits[i] = bit(digits[i]);
         i += 1;
     }
 }
@@ -103,29 +37,6 @@ fn fill_samples(block: &[u8], samples: &mut [f32])
     }
 }
 
-fn is_negative(value: i16) -> u8 {
-    if value < 0 { 1 } else { 0 }
-}
-
-// One element joins a checksum by its size and its sign.
-fn folded(sum: u32, size: u16, sign: u8) -> u32
-    requires { ⌜ sum < 65521 ⌝ }
-    ensures { λ r. ⌜ r < 65521 ⌝ }
-{
-    (sum * 31 + 2 * size as u32 + sign as u32) % 65521
-}
-
-// A number that depends on every element, its sign and its place.
-fn checksum(values: &[i16]) -> u32 {
-    let mut sum = 0;
-    let mut i = 0;
-    while i < values.len() {
-        sum = folded(sum, console::size(values[i]), is_negative(values[i]));
-        i += 1;
-    }
-    sum
-}
-
 // How many of the message's bits are read out otherwise than sent.
 fn differences(sent: &[u8; 32], read: &[u8; 33]) -> u32 {
     let mut count = 0;
@@ -139,31 +50,40 @@ fn differences(sent: &[u8; 32], read: &[u8; 33]) -> u32 {
     count
 }
 
-// The message is coded, and the block is sent and received: the LLRs are written.
-fn send(message: &[u8; 32], llr: &mut [i16]) {
-    let mut block = [9u8; 65];
+// The message is coded.
+fn code(mask: &[u8], message: &[u8], block: &mut [u8]) {
     console::bytes(b"link m=6 message", message);
-    console::answer(polar::encode(Code { m: 6 }, &MASK, message, &mut block));
-    console::bytes(b" block", &block);
-    let mut samples = [0.0f32; 64];
-    fill_samples(&block, &mut samples);
-    console::text(b"\nlink gaussian 8 m=6 C=127");
-    console::answer(channel::front(6, 127, Channel::Gaussian(8.0), &samples, llr));
+    console::answer(polar::encode(Code { m: 6 }, mask, message, block));
+    console::bytes(b" block", block);
+    console::text(b"\n");
+}
+
+// The samples become LLRs.
+fn front(samples: &[f32], llr: &mut [i16]) {
+    console::text(b"link gaussian 8 m=6 C=127");
+    console::answer(channel::front(6, 127, Channel::Gaussian(8.0), samples, llr));
     console::values(b" llr", llr);
     console::text(b"\n");
 }
 
-// What the decoder makes of the LLRs: its answer, the checksums, and its marks.
-fn receive(settings: Settings, llr: &[i16], mark: &mut [u8]) {
+// The block is sent and received: the LLRs are written.
+fn send(mask: &[u8], message: &[u8], llr: &mut [i16]) {
+    let mut block = [9u8; 65];
+    code(mask, message, &mut block);
+    let mut samples = [0.0f32; 64];
+    fill_samples(&block, &mut samples);
+    front(&samples, llr);
+}
+
+// What the decoder makes of the LLRs: its answer, and its marks.
+fn decode(settings: Settings, mask: &[u8], llr: &[i16], mark: &mut [u8]) {
     let mut soft = [9i16; 65];
     let mut coded_soft = [9i16; 65];
     let mut coded_mark = [9u8; 65];
     let mut work = [9i16; 897];
-    console::text(b"link");
-    say::settings(settings);
     say::outcome(decoder::decode(
         settings,
-        &MASK,
+        mask,
         llr,
         &mut soft,
         mark,
@@ -171,41 +91,56 @@ fn receive(settings: Settings, llr: &[i16], mark: &mut [u8]) {
         &mut coded_mark,
         &mut work,
     ));
-    console::number(b" checksums soft ", checksum(&soft));
-    console::number(b" coded ", checksum(&coded_soft));
-    console::number(b" work ", checksum(&work));
 }
 
-// One limit and criterion on the LLRs, then the read-out beside the message.
-fn end_by(limit: u32, criterion: u32, operand: u32, message: &[u8; 32], llr: &[i16]) {
-    let settings = Settings {
+// The settings of 64 positions, for one limit and criterion.
+fn of(limit: u32, criterion: u32, operand: u32) -> Settings {
+    Settings {
         m: 6,
         ceiling: 127,
         scale: 15,
         limit,
         criterion,
         operand,
-    };
-    let mut mark = [9u8; 65];
-    receive(settings, llr, &mut mark);
+    }
+}
+
+// The read-out of the marks, beside the message.
+fn read_out(mask: &[u8], mark: &[u8], message: &[u8; 32]) {
     let mut read = [9u8; 33];
     console::text(b" read_out");
-    console::answer(polar::read_out(Code { m: 6 }, &MASK, &mark, &mut read));
+    console::answer(polar::read_out(Code { m: 6 }, mask, mark, &mut read));
     console::bytes(b" message", &read);
     console::number(b" wrong ", differences(message, &read));
     console::text(b"\n");
 }
 
+fn receive(settings: Settings, mask: &[u8], message: &[u8; 32], llr: &[i16]) {
+    let mut mark = [9u8; 65];
+    console::text(b"link");
+    say::settings(settings);
+    decode(settings, mask, llr, &mut mark);
+    read_out(mask, &mark, message);
+}
+
+// Each criterion; then the limit, before the criterion can hold.
+fn criteria(mask: &[u8], message: &[u8; 32], llr: &[i16]) {
+    receive(of(40, 1, 0), mask, message, llr);
+    receive(of(40, 2, 20), mask, message, llr);
+    receive(of(40, 3, 8), mask, message, llr);
+    receive(of(1, 1, 0), mask, message, llr);
+}
+
+// 32 of the 64 positions are frozen.
 pub fn link() {
-    let mut message = [9u8; 32];
-    fill_message(&mut message);
+    let mut mask = [0u8; 64];
+    fill_bits(
+        b"1111111011101000111010001010100011101010111010001110100010000000",
+        &mut mask,
+    );
+    let mut message = [0u8; 32];
+    fill_bits(b"11000110001100011000110001100011", &mut message);
     let mut llr = [9i16; 65];
-    send(&message, &mut llr);
-    end_by(40, 1, 0, &message, &llr);
-    end_by(40, 2, 20, &message, &llr);
-    end_by(40, 3, 8, &message, &llr);
-    // Ended by the limit: before the criterion can hold, and without one while the messages still change.
-    end_by(1, 1, 0, &message, &llr);
-    end_by(2, 0, 0, &message, &llr);
-    end_by(3, 0, 0, &message, &llr);
+    send(&mask, &message, &mut llr);
+    criteria(&mask, &message, &llr);
 }

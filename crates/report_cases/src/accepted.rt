@@ -11,26 +11,18 @@ pub fn printed() {
 
 // P2 to P5. P4 ends at the limit with ties.
 pub fn worked() {
-    say::block(b"P2", b"1 31 16 10 1 0", b"0 1 -5\n1 0 3\n");
-    say::block(b"P3", b"1 31 15 10 1 0", b"0 1 5\n1 0 -3\n");
-    say::block(b"P4", b"1 31 16 10 1 0", b"0 1 3\n1 0 -3\n");
-    say::block(b"P5", b"1 31 16 10 1 0", b"0 0 7\n1 1 -31\n");
+    say::positions(b"P2", b"0 1 -5\n1 0 3\n");
+    say::settings(b"P3", b"1 31 15 10 1 0");
+    say::positions(b"P4", b"0 1 3\n1 0 -3\n");
+    say::positions(b"P5", b"0 0 7\n1 1 -31\n");
 }
 
-// P6: criterion 2.
-pub fn least_size() {
-    say::block(b"P6, operand 2", b"1 31 16 10 2 2", b"0 1 5\n1 0 -3\n");
-    say::block(b"P6, operand 3", b"1 31 16 10 2 3", b"0 1 5\n1 0 -3\n");
-}
-
-// P7: criterion 3.
-pub fn steady_marks() {
-    say::block(b"P7, limit 10", b"1 31 16 10 3 1", b"0 1 5\n1 0 -3\n");
-    say::block(b"P7, limit 1", b"1 31 16 1 3 1", b"0 1 5\n1 0 -3\n");
-}
-
-// P8.
-pub fn four_positions() {
+// P6 to P8: the least size, steady marks, and four positions.
+pub fn other_criteria() {
+    say::settings(b"P6, operand 2", b"1 31 16 10 2 2");
+    say::settings(b"P6, operand 3", b"1 31 16 10 2 3");
+    say::settings(b"P7, limit 10", b"1 31 16 10 3 1");
+    say::settings(b"P7, limit 1", b"1 31 16 1 3 1");
     say::block(b"P8", b"2 31 16 10 1 0", b"0 1 1\n1 1 2\n2 1 3\n3 0 4\n");
 }
 

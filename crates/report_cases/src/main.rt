@@ -8,12 +8,9 @@ mod say;
 fn main() {
     accepted::printed();
     accepted::worked();
-    accepted::least_size();
-    accepted::steady_marks();
-    accepted::four_positions();
+    accepted::other_criteria();
     accepted::spellings();
-    refused::ranges();
-    refused::criteria();
+    refused::settings();
     refused::positions();
     refused::malformed();
 }

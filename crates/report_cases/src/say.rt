@@ -3,16 +3,11 @@ ghost use Prim.Native.Nat.{_≤_};
 ghost use lib.ListN.{length};
 use report_text::REPORT_ROOM;
 
-// A line that says what the next text shows.
-pub fn name(name: &[u8]) {
-    console::text(name);
-    console::text(b"\n");
-}
-
-// A whole text.
+// A whole text, behind a line that says what it shows.
 pub fn report(about: &[u8], text: &[u8]) {
     let mut out = [0u8; REPORT_ROOM];
-    name(about);
+    console::text(about);
+    console::text(b"\n");
     let end = report_text::report(text, &mut out);
     console::text(&out[..end]);
 }
@@ -27,4 +22,18 @@ pub fn block(about: &[u8], settings: &[u8], positions: &[u8])
     let end = format::copy(&mut text, end, b"\nposition frozen llr\n");
     let end = format::copy(&mut text, end, positions);
     report(about, &text[..end]);
+}
+
+// Document 01's positions with other settings.
+pub fn settings(about: &[u8], settings: &[u8])
+    requires { ⌜ length (now settings) ≤ 100 ⌝ }
+{
+    block(about, settings, b"0 1 5\n1 0 -3\n");
+}
+
+// Document 01's settings with other positions.
+pub fn positions(about: &[u8], positions: &[u8])
+    requires { ⌜ length (now positions) ≤ 300 ⌝ }
+{
+    block(about, b"1 31 16 10 1 0", positions);
 }
