@@ -11,7 +11,7 @@ fn encode_twice(message: &[u8], block: &mut [u8], again: &mut [u8]) {
     say::lent(b" again", again);
 }
 
-// The message comes back; then the second slice is one element too short.
+// The message comes back; then the second slice is one element too short, and neither is written.
 pub fn blocks() {
     let message = [1u8, 0, 1, 1, 0, 0, 1, 0];
     let mut block = [9u8; 9];
