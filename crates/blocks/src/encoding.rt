@@ -37,16 +37,12 @@ pub fn longer() {
     encode(3, &mask, &[1, 0, 1, 1, 7], &mut block);
 }
 
-// 1, with slices that would be too short as well; 7, of the mask.
-pub fn refused_code() {
+// 1, with slices that would be too short as well; 7, of the mask, and of a message that has a byte that is no bit; 8,
+// 9 and 13. The message is too short for the mask of 8 as well; with 9 any message is long enough.
+pub fn refused() {
     let mut over = [9u8; 2];
     encode(11, &[0, 0], &[1, 1], &mut over);
     four(&[1, 1, 0], &[1]);
-}
-
-// 7, where a byte of the message is no bit as well; 8, 9 and 13. The message is too short for the mask of 8 as well;
-// with 9 any message is long enough.
-pub fn refused_message() {
     four(&[1, 1, 0, 0], &[2]);
     four(&[0, 0, 2, 0], &[1]);
     four(&[1, 1, 1, 1], &[]);

@@ -10,8 +10,7 @@ mod say;
 fn main() {
     encoding::small_blocks();
     encoding::longer();
-    encoding::refused_code();
-    encoding::refused_message();
+    encoding::refused();
     coding_twice::blocks();
     reading::blocks();
     reading::refused();

@@ -7,13 +7,11 @@ mod small;
 mod whole;
 
 fn main() {
-    small::decided();
-    small::undecided();
+    small::first_blocks();
     small::other_criteria();
     small::four_positions();
     small::longer();
     refused::ranges();
-    refused::slices();
     refused::blocks();
     whole::link();
 }

@@ -35,14 +35,10 @@ fn block(mask: &[u8], llr: &[i16]) {
     small::pair(b"refused", small::of(16, 10, 1, 0), mask, llr);
 }
 
-// 7, of the mask and of the LLRs.
-pub fn slices() {
+// 7, of the mask and of the LLRs; 8, 9 and 10.
+pub fn blocks() {
     block(&[2], &[5, -3]);
     block(&[1, 2], &[5]);
-}
-
-// 8, 9 and 10.
-pub fn blocks() {
     block(&[2, 1], &[32, 0]);
     block(&[1, 1], &[32, 0]);
     block(&[1, 0], &[5, -32768]);

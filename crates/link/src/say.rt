@@ -1,18 +1,15 @@
 // What only this program prints: the decoder's answer and its settings.
 use calls::Answer;
 use decoder::Outcome;
-use decoder::Reason;
 use settings::Settings;
-
-fn ended(iterations: u32, why: Reason) {
-    console::number(b" answer ", iterations);
-    console::number(b" ", decoder::reason_number(why));
-}
 
 // The decoder's answer: the iteration and the reason, or the number of its refusal.
 pub fn outcome(outcome: Outcome) {
     match outcome {
-        Outcome::Ended(iterations, why) => ended(iterations, why),
+        Outcome::Ended(iterations, why) => {
+            console::number(b" answer ", iterations);
+            console::number(b" ", decoder::reason_number(why));
+        }
         Outcome::Refused(refusal) => {
             console::number(b" answer refused ", calls::number(Answer::Refused(refusal)));
         }

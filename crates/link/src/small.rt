@@ -86,15 +86,11 @@ pub fn first(name: &[u8], settings: Settings) {
     pair(name, settings, &[1, 0], &[5, -3]);
 }
 
-// P1 to P3.
-pub fn decided() {
+// P1 to P5. The last two end undecided.
+pub fn first_blocks() {
     first(b"P1", of(16, 10, 1, 0));
     pair(b"P2", of(16, 10, 1, 0), &[1, 0], &[-5, 3]);
     first(b"P3", of(15, 10, 1, 0));
-}
-
-// P4 and P5: ties.
-pub fn undecided() {
     pair(b"P4", of(16, 10, 1, 0), &[1, 0], &[3, -3]);
     pair(b"P5", of(16, 10, 1, 0), &[0, 1], &[7, -31]);
 }

@@ -93,18 +93,6 @@ fn decode(settings: Settings, mask: &[u8], llr: &[i16], mark: &mut [u8]) {
     ));
 }
 
-// The settings of 64 positions, for one limit and criterion.
-fn of(limit: u32, criterion: u32, operand: u32) -> Settings {
-    Settings {
-        m: 6,
-        ceiling: 127,
-        scale: 15,
-        limit,
-        criterion,
-        operand,
-    }
-}
-
 // The read-out of the marks, beside the message.
 fn read_out(mask: &[u8], mark: &[u8], message: &[u8; 32]) {
     let mut read = [9u8; 33];
@@ -115,7 +103,16 @@ fn read_out(mask: &[u8], mark: &[u8], message: &[u8; 32]) {
     console::text(b"\n");
 }
 
-fn receive(settings: Settings, mask: &[u8], message: &[u8; 32], llr: &[i16]) {
+// One limit and criterion on the LLRs.
+fn receive(limit: u32, criterion: u32, operand: u32, mask: &[u8], message: &[u8; 32], llr: &[i16]) {
+    let settings = Settings {
+        m: 6,
+        ceiling: 127,
+        scale: 15,
+        limit,
+        criterion,
+        operand,
+    };
     let mut mark = [9u8; 65];
     console::text(b"link");
     say::settings(settings);
@@ -125,10 +122,10 @@ fn receive(settings: Settings, mask: &[u8], message: &[u8; 32], llr: &[i16]) {
 
 // Each criterion; then the limit, before the criterion can hold.
 fn criteria(mask: &[u8], message: &[u8; 32], llr: &[i16]) {
-    receive(of(40, 1, 0), mask, message, llr);
-    receive(of(40, 2, 20), mask, message, llr);
-    receive(of(40, 3, 8), mask, message, llr);
-    receive(of(1, 1, 0), mask, message, llr);
+    receive(40, 1, 0, mask, message, llr);
+    receive(40, 2, 20, mask, message, llr);
+    receive(40, 3, 8, mask, message, llr);
+    receive(1, 1, 0, mask, message, llr);
 }
 
 // 32 of the 64 positions are frozen.

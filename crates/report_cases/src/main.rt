@@ -12,5 +12,4 @@ fn main() {
     accepted::spellings();
     refused::settings();
     refused::positions();
-    refused::malformed();
 }

@@ -11,15 +11,11 @@ pub fn settings() {
     say::settings(b"criterion 2, operand 32", b"1 31 16 10 2 32");
 }
 
-// 8, 9 and 10.
+// 8, 9 and 10; then 14, twice.
 pub fn positions() {
     say::positions(b"mask value 2", b"0 1 5\n1 2 -3\n");
     say::positions(b"no information position", b"0 1 5\n1 1 -3\n");
     say::positions(b"LLR 32", b"0 1 32\n1 0 -3\n");
-}
-
-// 14.
-pub fn malformed() {
     say::positions(b"letter", b"0 1 5\n1 0 a\n");
     say::positions(b"one line too few", b"0 1 5\n");
 }
