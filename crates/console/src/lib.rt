@@ -1,6 +1,6 @@
 // What the programs print with: texts, whole numbers, slices, and the number of an answer, to standard output.
-// It sees `calls`, `format` for the size of a number, and C's write. It promises to end, and the size of a number; what
-// it prints is compared with the stored output of the programs.
+// It sees `calls`, `format` for the size of a number, and C's write. It promises to end; what it prints is compared
+// with the stored output of the programs.
 ghost use mathlib.Core.Path.{_≡_};
 ghost use lib.IntN.{natAbs};
 use calls::Answer;
@@ -21,7 +21,7 @@ fn byte(b: u8) {
 }
 
 // The size of every 16-bit number, the least included.
-pub fn size(value: i16) -> u16
+fn size(value: i16) -> u16
     ensures { λ r. ⌜ r ≡ natAbs value ⌝ }
 {
     format::size(value as i32) as u16
