@@ -1,11 +1,13 @@
--- Laws of lent memory: the length and the elements of an overwritten list, how it grows, and a slice after a call.
-use Prim.Native.Nat.{ℕ, zero, suc, _+_, _≤_, _<_}
+-- Laws of lent memory: the length and the elements of an overwritten list, how it grows, a list written over the first
+-- elements, and a slice after a call.
+use Prim.Native.Nat.{ℕ, zero, suc, _+_, _-_, _≤_, _<_}
 use mathlib.Core.Path.{_≡_, refl, ap, ap₂, _∙_}
-use mathlib.Core.List.{List, [], _∷_}
+use mathlib.Core.List.{List, [], _∷_, _++_}
 use native.Mathlib.Nat.{le-of-suc-le-suc, not-suc-le-zero, add-zero, add-suc, zero-add, suc-add}
 use native.Mathlib.Omega.{arith}
-use lib.ListN.{length, getD, set}
-use Rattle.calls.specs.LentMemory.{overwrite, overwriteFrom, unlessRefused}
+use lib.ListN.{length, getD, set, drop}
+use lib.Seq.{sets, sets-eq, drop-append-add, drop-drop}
+use Rattle.calls.specs.LentMemory.{overwrite, overwriteFrom, writtenOver, unlessRefused}
 
 module _ {A : Type 0} where
   pub length-overwrite : (n : ℕ) (g : ℕ → A) (l : List A) → length (overwrite n g l) ≡ length l
@@ -154,6 +156,19 @@ module _ {A : Type 0} where
   set-before (suc a) n g [] j v h = refl
   set-before (suc a) n g (x ∷ l) zero v h = refl
   set-before (suc a) n g (x ∷ l) (suc j) v h = ap (λ (r : List A). x ∷ r) (set-before a n g l j v (le-of-suc-le-suc h))
+
+  -- ---- a list written over the first elements
+
+  -- what is stored one after another from the first element on
+  pub written-sets : (values old : List A) → length values ≤ length old → sets old 0 values ≡ writtenOver values old
+  written-sets values old h =
+      sets-eq values old 0 (omega arith) ∙ ap (λ (n : ℕ). values ++ drop n old) (zero-add (length values))
+
+  pub written-behind : (values old : List A) (n : ℕ) → length values ≤ n → drop n (writtenOver values old) ≡ drop n old
+  written-behind values old n h =
+      let e : n ≡ length values + (n - length values) = omega arith in
+      rw e (drop-append-add values (drop (length values) old) (n - length values)
+      ∙ drop-drop (n - length values) (length values) old)
 
   -- ---- a lent slice after a call: its length, and an element that an accepted call writes
 

@@ -11,6 +11,7 @@ use borrow.Author.Tests.{le-leb, lt-leb}
 use lib.ListN.{length, drop, take, set, drop-of-length-le}
 use lib.Seq.{take-suc-set, getD-take, drop-cons, sets}
 use Rattle.calls.specs.Bounds.{largestM}
+use Rattle.calls.specs.LentMemoryLaws.{written-sets}
 use Rattle.calls.specs.declared.Refusal.{Refusal}
 use Rattle.calls.specs.Numbers.{between, refusalNumber, firstRefusal}
 use Rattle.calls.specs.NumberLaws.{refused-first}
@@ -45,7 +46,7 @@ use Rattle.report_input.specs.Input.{
   InputRead,
 }
 use Rattle.scan.specs.Lines.{line, literal}
-use Rattle.scan.specs.ScanLaws.{bind-found, written-sets}
+use Rattle.scan.specs.ScanLaws.{bind-found}
 use Rattle.report_input.specs.Private.{positionsStored}
 use Rattle.report_input.specs.declared.Input.the-variants.{Accepted, Refused}
 

@@ -4,19 +4,19 @@ use Prim.Native.Nat.{ℕ, zero, suc, _+_, _-_, _*_, _<_, _≤_}
 use mathlib.Core.Path.{_≡_, refl, sym, ap, _∙_}
 use mathlib.Core.Bool.{Bool, true, false, cond, _&&_, true≢false}
 use mathlib.Core.List.{List, [], _∷_, _++_, append-assoc}
-use native.Mathlib.Nat.{zero-add}
 use native.Mathlib.Omega.{arith}
 use native.Mathlib.Numerals.{add-one, sub-one}
 use borrow.Author.Tests.{leb-true}
 use lib.Dec.{leb, eqb}
 use lib.IntN.{ℤ, pos, negℤ, natAbs}
 use lib.ListN.{length, getD, drop, take, set, drop-of-length-le}
-use lib.Seq.{drop-cons, take-suc-set, sets, sets-eq, drop-append-add, drop-drop}
+use lib.Seq.{drop-cons, take-suc-set, sets}
+use Rattle.calls.specs.LentMemory.{writtenOver}
+use Rattle.calls.specs.LentMemoryLaws.{written-sets, written-behind}
 use Rattle.calls.specs.SignLaws.{size-neg}
 use Rattle.scan.specs.Reading.{Reading, found, malformed, bind, ifFound, first, rest}
 use Rattle.scan.specs.Numbers.{isDigit, digits, natural, number}
 use Rattle.scan.specs.Lines.{spaces, separator, line, literal}
-use Rattle.calls.specs.LentMemory.{writtenOver}
 use Rattle.scan.specs.Answers.{valuesStored}
 
 -- ---- one reading after another
@@ -27,20 +27,6 @@ module _ {A B : Type 0} where
       (a : A) × (s : List ℕ) × (r ≡ found a s) × (next a s ≡ found b u)
   bind-found (found a s) next b u e = (a, s, refl, e)
   bind-found malformed next b u e = let h : _≡_ {A = ℕ} 0 1 = cc in absurd (omega arith)
-
--- ---- lent memory
-
-module _ {A : Type 0} where
-  -- what is stored one after another from the first element on
-  pub written-sets : (values old : List A) → length values ≤ length old → sets old 0 values ≡ writtenOver values old
-  written-sets values old h =
-      sets-eq values old 0 (omega arith) ∙ ap (λ (n : ℕ). values ++ drop n old) (zero-add (length values))
-
-  pub written-behind : (values old : List A) (n : ℕ) → length values ≤ n → drop n (writtenOver values old) ≡ drop n old
-  written-behind values old n h =
-      let e : n ≡ length values + (n - length values) = omega arith in
-      rw e (drop-append-add values (drop (length values) old) (n - length values)
-      ∙ drop-drop (n - length values) (length values) old)
 
 -- ---- the byte at a position, and the text behind it
 
