@@ -1,12 +1,12 @@
 -- Signed numbers as the machine sees them: a local z of 32 bits stands as toZ w32 (ofZ w32 z), and its copy in 64 bits
 -- as toZ w64 (ofZ w64 ..) of that; a local of 16 bits and its copy in 32 bits likewise.
-use Prim.Native.Nat.{zero, suc}
+use Prim.Native.Nat.{ℕ, zero, suc, _≤_}
 use mathlib.Core.Path.{_≡_, _∙_}
 use native.Mathlib.Omega.{arith}
 use lib.IntN.{ℤ, pos, negsuc, negℤ, natAbs, _-ℤ_, +ℤ-idl}
 use mir.Syntax.{w16, w32, w64}
 use mir.Val.{Fits, SFits, toZ, ofZ}
-use mir.Facts.{toZ-ofZ}
+use mir.Facts.{toZ-ofZ, toZ-pos}
 
 pub size-fits : (z : ℤ) → SFits w32 z → Fits w32 (natAbs z)
 size-fits (pos n) f = omega (arith, f .sfits)
@@ -43,3 +43,8 @@ module _ (z : ℤ) (f : SFits w16 z) where
 
   pub widened : toZ w32 (ofZ w32 (toZ w16 (ofZ w16 z))) ≡ z
   widened = rw (toZ-ofZ f) (toZ-ofZ (in-32-bits z f))
+
+-- ---- a small unsigned number in 32 bits with a sign
+
+pub natural-held : (n : ℕ) → n ≤ 9999 → toZ w32 n ≡ pos n
+natural-held n h = toZ-pos w32 (omega arith)

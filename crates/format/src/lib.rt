@@ -1,14 +1,19 @@
 // Writes numbers, lines of values and fixed texts as bytes into a lent slice.
-// It sees `calls` for its laws. Each function promises the bytes that the definitions of specs/ give, from the position
-// handed in on, the old contents elsewhere, and the position behind them. All that it asks for is the room.
+// It sees `calls`. Each function promises the bytes that the definitions of specs/ give, from the position handed in on
+// (a refusal's from the first), the old contents elsewhere, and the position behind them. All that it asks for is the
+// room.
 ghost use mathlib.Core.Path.{_≡_};
 ghost use mathlib.Core.Bool.{cond};
 ghost use mathlib.Core.List.{[], _∷_, _++_};
 ghost use Prim.Native.Nat.{_+_, _<_, _≤_};
 ghost use lib.ListN.{length};
 ghost use lib.IntN.{natAbs};
+ghost use Rattle.calls.specs.Numbers.{refusalNumber};
 ghost use Rattle.format.specs.Decimal.{decimal, shown, line};
+ghost use Rattle.format.specs.Texts.{refusalText};
 ghost use Rattle.format.specs.Wrote.{Wrote};
+use calls::Answer;
+use calls::Refusal;
 
 // The byte of a digit.
 fn digit(n: u32) -> u8
@@ -101,4 +106,14 @@ pub fn copy(out: &mut [u8], at: usize, text: &[u8]) -> usize
         i += 1;
     }
     at + i
+}
+
+// The text of a refusal, in place of the one that was asked for.
+pub fn refused(out: &mut [u8], refusal: Refusal) -> usize
+    requires { ⌜ length (refusalText (refusalNumber refusal)) ≤ length (now out) ⌝ }
+    ensures { λ r. ⌜ Wrote (now (out .entry)) 0 (refusalText (refusalNumber refusal)) (now (out .exit)) r ⌝ }
+{
+    let number = calls::number(Answer::Refused(refusal));
+    let end = copy(out, 0, b"refused\n");
+    line(out, end, &[number as i32])
 }
