@@ -6,6 +6,7 @@ use lib.IntN.{pos, negsuc}
 use Rattle.scan.specs.Numbers.{digits, natural, number}
 use Rattle.scan.specs.Lines.{spaces, separator, line, literal}
 use Rattle.calls.specs.Texts.{bytes}
+use Rattle.report_input.specs.declared.Room.{Room}
 use Rattle.report_input.specs.Input.{
   head,
   blockOf,
@@ -16,6 +17,7 @@ use Rattle.report_input.specs.Input.{
   Meaning,
   block,
   numberIn,
+  meaningIn,
   meaning,
 }
 
@@ -40,7 +42,7 @@ pub accepted : map meaning (
     ∷ of (bytes "01  31 000016 10   1 -0\n") (bytes "-0 1 000005\n1   0   -03\n")
     ∷ []
     ) ≡ worked ∷ worked ∷ []
-unfolding digits natural number spaces separator line literal head readPosition readPositions meaning
+unfolding digits natural number spaces separator line literal head readPosition readPositions meaningIn meaning
 accepted = refl
 
 -- the refusals by the line of the settings: each value -1, then one that would lie in its range if it wrapped at 8 or
@@ -60,7 +62,7 @@ pub settings-numbers : map (λ settings. numberIn (meaning (of settings pair))) 
     ∷ bytes "1 31 16 10 1 65536\n"
     ∷ []
     ) ≡ 1 ∷ 2 ∷ 3 ∷ 4 ∷ 5 ∷ 6 ∷ 1 ∷ 2 ∷ 3 ∷ 4 ∷ 5 ∷ 6 ∷ []
-unfolding digits natural number spaces separator line literal head readPosition readPositions meaning
+unfolding digits natural number spaces separator line literal head readPosition readPositions meaningIn meaning
 settings-numbers = refl
 
 -- the refusals by the lines of the positions. 256 is no 0, 65,539 is no 3
@@ -74,7 +76,7 @@ pub position-numbers : map (λ positions. numberIn (meaning (of usual positions)
     ∷ bytes "0 1 5\n1 0 -65536\n"
     ∷ []
     ) ≡ 8 ∷ 8 ∷ 8 ∷ 9 ∷ 10 ∷ 10 ∷ 10 ∷ []
-unfolding digits natural number spaces separator line literal head readPosition readPositions meaning
+unfolding digits natural number spaces separator line literal head readPosition readPositions meaningIn meaning
 position-numbers = refl
 
 -- the order: 14 in the first three lines, then 1, then 14 in the rest, then the others
@@ -85,7 +87,7 @@ pub order : map (λ text. numberIn (meaning text)) (
     ∷ of (bytes "1 0 16 10 1 0\n") (bytes "0 1 32\n1 1 -3\n")
     ∷ []
     ) ≡ 14 ∷ 1 ∷ 14 ∷ 2 ∷ []
-unfolding digits natural number spaces separator line literal head readPosition readPositions meaning
+unfolding digits natural number spaces separator line literal head readPosition readPositions meaningIn meaning
 order = refl
 
 -- no number of positions but N, in order, and nothing behind
@@ -100,5 +102,25 @@ pub malformed : map (λ positions. numberIn (meaning (of usual positions))) (
     ∷ bytes "0 1\n1 0\n"
     ∷ []
     ) ≡ 14 ∷ 14 ∷ 14 ∷ 14 ∷ 14 ∷ 14 ∷ 14 ∷ 14 ∷ []
-unfolding digits natural number spaces separator line literal head readPosition readPositions meaning
+unfolding digits natural number spaces separator line literal head readPosition readPositions meaningIn meaning
 malformed = refl
+
+-- 7, where a lent slice has no room for the two positions: after 14, 1 and 2 to 6, before 8. Exactly two are enough
+abbrev room : ℕ → ℕ → Room
+room mask llr = record { mask = mask; llr = llr }
+
+pub rooms : map (λ room. numberIn (meaningIn room (of usual pair)))
+    (room 2 2 ∷ room 1 2 ∷ room 2 1 ∷ room 0 0 ∷ room 3 4 ∷ [])
+    ≡ 0 ∷ 7 ∷ 7 ∷ 7 ∷ 0 ∷ []
+unfolding digits natural number spaces separator line literal head readPosition readPositions meaningIn
+rooms = refl
+
+pub rooms-in-order : map (λ text. numberIn (meaningIn (room 1 1) text)) (
+    of usual (bytes "0 1 5\n")
+    ∷ of (bytes "11 31 16 10 1 0\n") pair
+    ∷ of (bytes "1 31 16 10 1 1\n") pair
+    ∷ of usual (bytes "0 2 5\n1 2 99\n")
+    ∷ []
+    ) ≡ 14 ∷ 1 ∷ 6 ∷ 7 ∷ []
+unfolding digits natural number spaces separator line literal head readPosition readPositions meaningIn
+rooms-in-order = refl

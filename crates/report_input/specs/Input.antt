@@ -5,7 +5,7 @@ use mathlib.Core.Bool.{cond}
 use mathlib.Core.List.{List, [], _∷_}
 use lib.Dec.{leb, eqb}
 use lib.IntN.{ℤ, pos, negsuc, natAbs}
-use lib.ListN.{length, getD}
+use lib.ListN.{length, getD, take}
 use Rattle.calls.specs.Bounds.{largestM, mostPositions, mostWorkspace}
 use Rattle.calls.specs.LentMemory.{writtenOver}
 use Rattle.calls.specs.Numbers.{between, refusalNumber}
@@ -18,6 +18,7 @@ use Rattle.scan.specs.Lines.{line, literal}
 use Rattle.calls.specs.Texts.{bytes}
 use Rattle.report_input.specs.declared.Input.{Input}
 use Rattle.report_input.specs.declared.Input.the-variants.{Accepted, Refused}
+use Rattle.report_input.specs.declared.Room.{Room}
 
 -- ---- constants
 
@@ -124,7 +125,7 @@ abbrev pub numberIn : Meaning → ℕ
 numberIn (refused number) = number
 numberIn (block s b) = 0
 
--- room for a block of any length, so that 7 can't be
+-- the decoder's other slices: room for a block of any length
 abbrev pub largestLengths : Lengths
 largestLengths =
     record {
@@ -143,20 +144,33 @@ abbrev pub meaningBy : ℕ → Settings → Block → Meaning
 meaningBy zero s b = block s b
 meaningBy (suc number) s b = refused (suc number)
 
--- the rest is tested for 14 (nothing follows the last line), then come the decoder's numbers
-abbrev pub tested : Settings → Reading Block → Meaning
-tested s (found b []) = meaningBy (blockNumber s b) s b
-tested s (found b (x ∷ behind)) = refused 14
-tested s malformed = refused 14
+-- as much of a block as lent slices have room for
+abbrev pub heldIn : Room → Block → Block
+heldIn room b = blockOf (take (room .mask) (b .mask)) (take (room .llr) (b .llr))
 
--- the first three lines are tested for 14, then m for 1
-abbrev pub sized : Reading Settings → Meaning
-sized (found s behind) = cond (between 1 largestM (s .m)) (tested s (readPositions (2 ^ s .m) 0 behind)) (refused 1)
-sized malformed = refused 14
+module _ (room : Room) where
+  -- the rest is tested for 14 (nothing follows the last line), then come the decoder's numbers; 7, in its place among
+  -- them, where the lent slices don't have room for all of the block
+  abbrev pub tested : Settings → Reading Block → Meaning
+  tested s (found b []) = meaningBy (blockNumber s (heldIn room b)) s b
+  tested s (found b (x ∷ behind)) = refused 14
+  tested s malformed = refused 14
 
--- a text that is too long is 14 before anything else
+  -- the first three lines are tested for 14, then m for 1
+  abbrev pub sized : Reading Settings → Meaning
+  sized (found s behind) = cond (between 1 largestM (s .m)) (tested s (readPositions (2 ^ s .m) 0 behind)) (refused 1)
+  sized malformed = refused 14
+
+  -- a text that is too long is 14 before anything else
+  unfoldable pub meaningIn : List ℕ → Meaning
+  meaningIn t = cond (leb (length t) longestText) (sized (head t)) (refused 14)
+
+-- the meaning of a text, whatever memory is lent: with room for a block of any length, so that 7 can't be
+abbrev pub largestRoom : Room
+largestRoom = record { mask = mostPositions; llr = mostPositions }
+
 unfoldable pub meaning : List ℕ → Meaning
-meaning t = cond (leb (length t) longestText) (sized (head t)) (refused 14)
+meaning t = meaningIn largestRoom t
 
 -- ---- the promise of `read`: its answer, and the lent slices afterwards, by the meaning of the text
 
@@ -180,6 +194,9 @@ blockOver b old = blockOf (writtenOver (b .mask) (old .mask)) (writtenOver (b .l
 abbrev pub blockAfter : Meaning → Block → Block
 blockAfter (refused number) old = old
 blockAfter (block s b) old = blockOver b old
+
+abbrev pub roomOf : Block → Room
+roomOf lent = record { mask = length (lent .mask); llr = length (lent .llr) }
 
 -- `before` and `after` are the contents of the lent slices
 pub record InputRead (means : Meaning) (before after : Block) (r : Input) : Type 0 where

@@ -1,21 +1,22 @@
 -- Laws of the input: how its lines are read one by one, and what an accepted block is.
-use Prim.Native.Nat.{ℕ, zero, suc, _+_, _-_, _^_, _<_, _≤_}
+use Prim.Native.Nat.{ℕ, zero, suc, _+_, _-_, _^_, _<_, _≤_, min}
 use mathlib.Core.Path.{_≡_, refl, sym, ap, ap₂, _∙_}
 use mathlib.Core.Bool.{Bool, true, false, cond}
 use mathlib.Core.List.{List, [], _∷_, _++_, append-assoc, append-nil}
 use native.Mathlib.Numerals.{add-one}
 use native.Mathlib.Omega.{arith}
-use lib.Dec.{leb, eqb, lit<}
+use lib.Dec.{leb, ltb, eqb, lit<}
 use lib.IntN.{ℤ, pos}
-use borrow.Author.Tests.{le-leb, lt-leb}
-use lib.ListN.{length, drop, take, set, drop-of-length-le}
-use lib.Seq.{take-suc-set, getD-take, drop-cons, sets}
+use borrow.Author.Tests.{le-leb, lt-leb, ltb-true, ltb-false}
+use lib.ListN.{length, drop, take, set, drop-of-length-le, length-take}
+use lib.Seq.{take-suc-set, getD-take, drop-cons, sets, take-take, take-all}
 use Rattle.calls.specs.Bounds.{largestM}
 use Rattle.calls.specs.LentMemoryLaws.{written-sets}
 use Rattle.calls.specs.declared.Refusal.{Refusal}
 use Rattle.calls.specs.Numbers.{between, refusalNumber, firstRefusal}
 use Rattle.calls.specs.NumberLaws.{refused-first}
 use Rattle.settings.specs.declared.Settings.{Settings}
+use Rattle.settings.specs.SettingsLaws.{accepted}
 use Rattle.scan.specs.Reading.{Reading, found, malformed, bind, ifFound}
 use Rattle.report_input.specs.Input.{
   longestText,
@@ -38,9 +39,13 @@ use Rattle.report_input.specs.Input.{
   block,
   numberIn,
   blockNumber,
+  largestLengths,
   meaningBy,
+  heldIn,
   tested,
   sized,
+  meaningIn,
+  largestRoom,
   meaning,
   blockOver,
   InputRead,
@@ -49,6 +54,7 @@ use Rattle.scan.specs.Lines.{line, literal}
 use Rattle.scan.specs.ScanLaws.{bind-found}
 use Rattle.report_input.specs.Private.{positionsStored}
 use Rattle.report_input.specs.declared.Input.the-variants.{Accepted, Refused}
+use Rattle.report_input.specs.declared.Room.{Room}
 
 -- ---- one line
 
@@ -237,51 +243,83 @@ abbrev pub Means : Meaning → Type 0
 Means (refused number) = Unit
 Means (block s b) = Fit s b
 
-meaning-by : (n : ℕ) (s : Settings) (b : Block) → blockNumber s b ≡ n → Long (2 ^ s .m) b → Means (meaningBy n s b)
-meaning-by zero s b e long = record { number = e; long = long }
-meaning-by (suc n) s b e long = tt
+-- ---- a block in the room that it has
 
-tested-fit : (s : Settings) (R : Reading Block) → Each (Long (2 ^ s .m)) R → Means (tested s R)
-tested-fit s malformed long = tt
-tested-fit s (found b []) long = meaning-by (blockNumber s b) s b refl long
-tested-fit s (found b (x ∷ more)) long = tt
-
-sized-fit : (R : Reading Settings) → Means (sized R)
-sized-fit malformed = tt
-sized-fit (found s t) = either (between 1 largestM (s .m))
+-- the first n elements, as far as there is room for k
+pub take-smaller : {A : Type 0} (n k : ℕ) (l : List A) → take (min n k) l ≡ take k (take n l)
+take-smaller n k l = split (ltb n k) refl
   where
-    either : (ok : Bool) → Means (cond ok (tested s (readPositions (2 ^ s .m) 0 t)) (refused 1))
-    either true = tested-fit s (readPositions (2 ^ s .m) 0 t) (read-positions-long (2 ^ s .m) 0 t)
-    either false = tt
+    split : (t : Bool) → ltb n k ≡ t → take (min n k) l ≡ take k (take n l)
+    split true e =
+        let h : n < k = ltb-true n k e in
+        let least : min n k ≡ n = omega arith in
+        rw least (sym (take-all k (take n l) (omega (arith, length-take n l))))
+    split false e =
+        let h : k ≤ n = ltb-false n k e in
+        let least : min n k ≡ k = omega arith in
+        rw least (sym (take-take k n l h))
 
--- the meaning of a text is a refusal, or a block that the decoder accepts
+-- room for all of a block
+pub record Roomy (room : Room) (n : ℕ) : Type 0 where
+  pub mask-room : n ≤ room .mask
+  pub llr-room : n ≤ room .llr
+
+pub held-whole : (room : Room) (n : ℕ) (b : Block) → Long n b → Roomy room n → heldIn room b ≡ b
+held-whole room n b long roomy =
+    ap₂ blockOf
+    (take-all (room .mask) (b .mask) (omega (arith, long .mask-long, roomy .mask-room)))
+    (take-all (room .llr) (b .llr) (omega (arith, long .llr-long, roomy .llr-room)))
+
+-- an accepted block has room
+pub accepted-room : (room : Room) (s : Settings) (b : Block) → blockNumber s (heldIn room b) ≡ 0
+    → Roomy room (2 ^ s .m)
+accepted-room room s b e =
+    let held = heldIn room b in
+    let long = accepted s (held .mask) (held .llr) largestLengths e .slices in
+    record {
+      mask-room = omega (arith, long .mask-long, length-take (room .mask) (b .mask));
+      llr-room = omega (arith, long .llr-long, length-take (room .llr) (b .llr));
+    }
+
+module _ (room : Room) where
+  meaning-by : (n : ℕ) (s : Settings) (b : Block) → blockNumber s (heldIn room b) ≡ n → Long (2 ^ s .m) b
+      → Means (meaningBy n s b)
+  meaning-by zero s b e long =
+      let whole = held-whole room (2 ^ s .m) b long (accepted-room room s b e) in
+      record { number = sym (ap (blockNumber s) whole) ∙ e; long = long }
+  meaning-by (suc n) s b e long = tt
+
+  tested-fit : (s : Settings) (R : Reading Block) → Each (Long (2 ^ s .m)) R → Means (tested room s R)
+  tested-fit s malformed long = tt
+  tested-fit s (found b []) long = meaning-by (blockNumber s (heldIn room b)) s b refl long
+  tested-fit s (found b (x ∷ more)) long = tt
+
+  sized-fit : (R : Reading Settings) → Means (sized room R)
+  sized-fit malformed = tt
+  sized-fit (found s t) = either (between 1 largestM (s .m))
+    where
+      either : (ok : Bool) → Means (cond ok (tested room s (readPositions (2 ^ s .m) 0 t)) (refused 1))
+      either true = tested-fit s (readPositions (2 ^ s .m) 0 t) (read-positions-long (2 ^ s .m) 0 t)
+      either false = tt
+
+  -- the meaning of a text is a refusal, or a block that the decoder accepts
+  pub meaning-in-fit : (t : List ℕ) → Means (meaningIn room t)
+  unfolding meaningIn
+  meaning-in-fit t = either (leb (length t) longestText)
+    where
+      either : (ok : Bool) → Means (cond ok (sized room (head t)) (refused 14))
+      either true = sized-fit (head t)
+      either false = tt
+
 pub meaning-fit : (t : List ℕ) → Means (meaning t)
 unfolding meaning
-meaning-fit t = either (leb (length t) longestText)
-  where
-    either : (ok : Bool) → Means (cond ok (sized (head t)) (refused 14))
-    either true = sized-fit (head t)
-    either false = tt
+meaning-fit t = meaning-in-fit largestRoom t
 
 -- ---- the number of the lines of the positions
 
 pub number-in : (n : ℕ) (s : Settings) (b : Block) → numberIn (meaningBy n s b) ≡ n
 number-in zero s b = refl
 number-in (suc n) s b = refl
-
-pub lines-malformed : (s : Settings) (R : Reading Block) → R ≡ malformed → 14 ≡ numberIn (tested s R)
-lines-malformed s R e = rw e
-
--- something follows the last line
-pub lines-followed : (s : Settings) (R : Reading Block) (b : Block) (end : ℕ) (t : List ℕ)
-    → R ≡ found b (drop end t) → end < length t
-    → 14 ≡ numberIn (tested s R)
-lines-followed s R b end t e h = rw (e, drop-cons t end 0 h)
-
-pub lines-number : (s : Settings) (R : Reading Block) (b : Block) (end : ℕ) (t : List ℕ)
-    → R ≡ found b (drop end t) → length t ≤ end
-    → blockNumber s b ≡ numberIn (tested s R)
-lines-number s R b end t e h = rw (e, drop-of-length-le t h) (sym (number-in (blockNumber s b) s b))
 
 number-positive : (r : Refusal) → 0 ≡ refusalNumber r → ⊥
 number-positive r e =
@@ -292,18 +330,36 @@ pub refused-block : (r : Refusal) (means : Meaning) → refusalNumber r ≡ numb
 refused-block r (refused number) e = ap refused (sym e)
 refused-block r (block s b) e = absurd (number-positive r (sym e))
 
--- where no number applies, the lines were read to the end of the text
-pub record Whole (s : Settings) (R : Reading Block) : Type 0 where
+-- where no number applies, the lines were read to the end of the text, and the block has room
+pub record Whole (room : Room) (s : Settings) (R : Reading Block) : Type 0 where
   pub b : Block
   pub read : R ≡ found b []
-  pub means : tested s R ≡ block s b
+  pub means : tested room s R ≡ block s b
+  pub roomy : Roomy room (2 ^ s .m)
 
-pub accepted-block : (s : Settings) (R : Reading Block) → 0 ≡ numberIn (tested s R) → Whole s R
-accepted-block s malformed e = absurd (omega arith)
-accepted-block s (found b (x ∷ more)) e = absurd (omega arith)
-accepted-block s (found b []) e =
-    let zero-number : blockNumber s b ≡ 0 = sym (number-in (blockNumber s b) s b) ∙ sym e in
-    record { b = b; read = refl; means = rw zero-number }
+module _ (room : Room) where
+  pub lines-malformed : (s : Settings) (R : Reading Block) → R ≡ malformed → 14 ≡ numberIn (tested room s R)
+  lines-malformed s R e = rw e
+
+  -- something follows the last line
+  pub lines-followed : (s : Settings) (R : Reading Block) (b : Block) (end : ℕ) (t : List ℕ)
+      → R ≡ found b (drop end t) → end < length t
+      → 14 ≡ numberIn (tested room s R)
+  lines-followed s R b end t e h = rw (e, drop-cons t end 0 h)
+
+  pub lines-number : (s : Settings) (R : Reading Block) (b : Block) (end : ℕ) (t : List ℕ)
+      → R ≡ found b (drop end t) → length t ≤ end
+      → blockNumber s (heldIn room b) ≡ numberIn (tested room s R)
+  lines-number s R b end t e h =
+      rw (e, drop-of-length-le t h) (sym (number-in (blockNumber s (heldIn room b)) s b))
+
+  pub accepted-block : (s : Settings) (R : Reading Block) → 0 ≡ numberIn (tested room s R) → Whole room s R
+  accepted-block s malformed e = absurd (omega arith)
+  accepted-block s (found b (x ∷ more)) e = absurd (omega arith)
+  accepted-block s (found b []) e =
+      let number = blockNumber s (heldIn room b) in
+      let zero-number : number ≡ 0 = sym (number-in number s b) ∙ sym e in
+      record { b = b; read = refl; means = rw zero-number; roomy = accepted-room room s b zero-number }
 
 -- ---- what `read` answers and leaves
 
@@ -311,27 +367,29 @@ pub read-refused : {old : Block} {means : Meaning} (r : Refusal) → means ≡ r
     → InputRead means old old (Refused r)
 read-refused r e = rw e (record { answer = refl; after-is = refl })
 
-pub sized-refused : (s : Settings) (t : List ℕ) → between 1 largestM (s .m) ≡ false → sized (found s t) ≡ refused 1
-sized-refused s t e = rw e
+module _ (room : Room) where
+  pub sized-refused : (s : Settings) (t : List ℕ) → between 1 largestM (s .m) ≡ false
+      → sized room (found s t) ≡ refused 1
+  sized-refused s t e = rw e
 
-pub sized-tested : (s : Settings) (t : List ℕ) → between 1 largestM (s .m) ≡ true
-    → sized (found s t) ≡ tested s (readPositions (2 ^ s .m) 0 t)
-sized-tested s t e = rw e
+  pub sized-tested : (s : Settings) (t : List ℕ) → between 1 largestM (s .m) ≡ true
+      → sized room (found s t) ≡ tested room s (readPositions (2 ^ s .m) 0 t)
+  sized-tested s t e = rw e
 
-pub read-accepted : (s : Settings) (u : List ℕ) (n : ℕ) {old new : Block}
-    → 0 ≡ numberIn (tested s (readPositions (2 ^ s .m) 0 u)) → n ≡ 2 ^ s .m
-    → new ≡ blockOver (positionsStored n 0 u) old
-    → InputRead (tested s (readPositions (2 ^ s .m) 0 u)) old new (Accepted s)
-read-accepted s u n {old} none size stored =
-    let whole = accepted-block s (readPositions (2 ^ s .m) 0 u) none in
-    let same = ap (λ (k : ℕ). positionsStored k 0 u) size
-    ∙ stored-positions (2 ^ s .m) 0 u (whole .b) [] (whole .read) in
-    rw (whole .means) (record { answer = refl; after-is = stored ∙ ap (λ (b : Block). blockOver b old) same })
+  pub read-accepted : (s : Settings) (u : List ℕ) (n : ℕ) {old new : Block}
+      → 0 ≡ numberIn (tested room s (readPositions (2 ^ s .m) 0 u)) → n ≡ 2 ^ s .m
+      → new ≡ blockOver (positionsStored n 0 u) old
+      → InputRead (tested room s (readPositions (2 ^ s .m) 0 u)) old new (Accepted s)
+  read-accepted s u n {old} none size stored =
+      let whole = accepted-block room s (readPositions (2 ^ s .m) 0 u) none in
+      let same = ap (λ (k : ℕ). positionsStored k 0 u) size
+      ∙ stored-positions (2 ^ s .m) 0 u (whole .b) [] (whole .read) in
+      rw (whole .means) (record { answer = refl; after-is = stored ∙ ap (λ (b : Block). blockOver b old) same })
 
-pub meaning-long : (t : List ℕ) → longestText < length t → meaning t ≡ refused 14
-unfolding meaning
-meaning-long t h = rw (lt-leb (length t) longestText h)
+  pub meaning-long : (t : List ℕ) → longestText < length t → meaningIn room t ≡ refused 14
+  unfolding meaningIn
+  meaning-long t h = rw (lt-leb (length t) longestText h)
 
-pub meaning-sized : (t : List ℕ) → length t ≤ longestText → meaning t ≡ sized (head t)
-unfolding meaning
-meaning-sized t h = rw (le-leb (length t) longestText h)
+  pub meaning-sized : (t : List ℕ) → length t ≤ longestText → meaningIn room t ≡ sized room (head t)
+  unfolding meaningIn
+  meaning-sized t h = rw (le-leb (length t) longestText h)

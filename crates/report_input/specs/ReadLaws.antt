@@ -13,7 +13,7 @@ use Rattle.report_input.specs.Input.{
   Meaning,
   refused,
   block,
-  meaning,
+  meaningIn,
   ReadAnswer,
   accepted,
   rejected,
@@ -21,9 +21,10 @@ use Rattle.report_input.specs.Input.{
   InputRead,
 }
 use Rattle.report_input.specs.Private.{firstOf}
-use Rattle.report_input.specs.InputLaws.{Fit, Means, meaning-fit}
+use Rattle.report_input.specs.InputLaws.{Fit, Means, meaning-in-fit}
 use Rattle.report_input.specs.declared.Input.{Input}
 use Rattle.report_input.specs.declared.Input.the-variants.{Accepted, Refused}
+use Rattle.report_input.specs.declared.Room.{Room}
 
 abbrev isAccepted : ReadAnswer → Bool
 isAccepted (accepted s) = true
@@ -65,10 +66,11 @@ module _ {old new : Block} {r : Input} where
   of-refused (block s b) refusal read e =
       absurd (true≢false (ap isAccepted (sym (read .answer) ∙ ap answerOf e)))
 
-  pub accepted-text : (t : List ℕ) {s : Settings} {n : ℕ} → InputRead (meaning t) old new r → r ≡ Accepted s
-      → n ≡ 2 ^ s .m → AcceptedText (meaning t) s (firstOf n new)
-  accepted-text t {s} {n} read e size = of-accepted (meaning t) s n (meaning-fit t) read e size
+  module _ (room : Room) (t : List ℕ) where
+    pub accepted-text : {s : Settings} {n : ℕ} → InputRead (meaningIn room t) old new r → r ≡ Accepted s
+        → n ≡ 2 ^ s .m → AcceptedText (meaningIn room t) s (firstOf n new)
+    accepted-text {s} {n} read e size = of-accepted (meaningIn room t) s n (meaning-in-fit room t) read e size
 
-  pub refused-text : (t : List ℕ) {refusal : Refusal} → InputRead (meaning t) old new r → r ≡ Refused refusal
-      → meaning t ≡ refused (refusalNumber refusal)
-  refused-text t {refusal} read e = of-refused (meaning t) refusal read e
+    pub refused-text : {refusal : Refusal} → InputRead (meaningIn room t) old new r → r ≡ Refused refusal
+        → meaningIn room t ≡ refused (refusalNumber refusal)
+    refused-text {refusal} read e = of-refused (meaningIn room t) refusal read e

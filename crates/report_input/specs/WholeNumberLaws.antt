@@ -44,11 +44,14 @@ use Rattle.report_input.specs.Input.{
   blockNumber,
   refused,
   numberIn,
+  heldIn,
   tested,
   sized,
+  meaningIn,
+  largestRoom,
   meaning,
 }
-use Rattle.report_input.specs.InputLaws.{number-in}
+use Rattle.report_input.specs.InputLaws.{number-in, held-whole}
 use Rattle.report_input.specs.WholeNumbers.{
   lineValues,
   column,
@@ -269,50 +272,58 @@ lines-length (suc n) s lines u e =
 
 -- ---- the number of a text
 
-tested-whole : (zs : List ℤ) (R : Reading (List (List ℤ)))
+tested-whole : (zs : List ℤ) (R : Reading (List (List ℤ))) → 2 ^ natAbs (valueAt zs 0) ≤ mostPositions
     → ((lines : List (List ℤ)) (u : List ℕ) → R ≡ found lines u → length lines ≡ 2 ^ natAbs (valueAt zs 0))
-    → numberIn (tested (settingsOf zs) (bind R (blockFrom 0))) ≡ wholeTested zs R
-tested-whole zs malformed long = refl
-tested-whole zs (found lines (x ∷ u)) long = either (numberedFrom 0 lines)
-  where
-    either : (ok : Bool) → numberIn (tested (settingsOf zs) (cond ok (found (blockIn lines) (x ∷ u)) malformed)) ≡ 14
-    either true = refl
-    either false = refl
-tested-whole zs (found lines []) long = either (numberedFrom 0 lines)
+    → numberIn (tested largestRoom (settingsOf zs) (bind R (blockFrom 0))) ≡ wholeTested zs R
+tested-whole zs malformed small long = refl
+tested-whole zs (found lines (x ∷ u)) small long = either (numberedFrom 0 lines)
   where
     either : (ok : Bool)
-        → numberIn (tested (settingsOf zs) (cond ok (found (blockIn lines) []) malformed))
+        → numberIn (tested largestRoom (settingsOf zs) (cond ok (found (blockIn lines) (x ∷ u)) malformed)) ≡ 14
+    either true = refl
+    either false = refl
+tested-whole zs (found lines []) small long = either (numberedFrom 0 lines)
+  where
+    either : (ok : Bool)
+        → numberIn (tested largestRoom (settingsOf zs) (cond ok (found (blockIn lines) []) malformed))
         ≡ check ok 14 (wholeNumber zs (column 1 lines) (column 2 lines))
     either true =
-        number-in (blockNumber (settingsOf zs) (blockIn lines)) (settingsOf zs) (blockIn lines)
+        let n = 2 ^ natAbs (valueAt zs 0) in
+        let mask : length (blockIn lines .mask) ≡ n = simp length-map (long lines [] refl) in
+        let llr : length (blockIn lines .llr) ≡ n = simp length-map (long lines [] refl) in
+        let whole = held-whole largestRoom n (blockIn lines) (record { mask-long = mask; llr-long = llr })
+        (record { mask-room = small; llr-room = small }) in
+        number-in (blockNumber (settingsOf zs) (heldIn largestRoom (blockIn lines))) (settingsOf zs) (blockIn lines)
+        ∙ ap (blockNumber (settingsOf zs)) whole
         ∙ block-whole zs (column 1 lines) (column 2 lines) (simp length-map (long lines [] refl))
         (simp length-map (long lines [] refl))
     either false = refl
 
-sized-whole : (R : Reading (List ℤ)) → numberIn (sized (bind R (λ zs s. found (settingsOf zs) s))) ≡ wholeSized R
+sized-whole : (R : Reading (List ℤ)) → numberIn (sized largestRoom (bind R (λ zs s. found (settingsOf zs) s))) ≡ wholeSized R
 sized-whole malformed = refl
 sized-whole (found zs s) =
     rw (range-whole 1 largestM (valueAt zs 0) (lit< tt)) (either (inRange 1 largestM (valueAt zs 0)) refl)
   where
     either : (ok : Bool) → inRange 1 largestM (valueAt zs 0) ≡ ok
         → numberIn
-        (cond ok (tested (settingsOf zs) (readPositions (2 ^ unsigned (valueAt zs 0)) 0 s)) (refused 1))
+        (cond ok (tested largestRoom (settingsOf zs) (readPositions (2 ^ unsigned (valueAt zs 0)) 0 s)) (refused 1))
         ≡ check ok 1 (wholeTested zs (lineValues (2 ^ natAbs (valueAt zs 0)) s))
     either true e =
         let m : unsigned (valueAt zs 0) ≡ natAbs (valueAt zs 0) = in-range 1 largestM (valueAt zs 0) e in
         let range = between-passed 1 largestM (natAbs (valueAt zs 0))
         (rw (← m) (range-whole 1 largestM (valueAt zs 0) (lit< tt) ∙ e)) in
         let small : 2 ^ natAbs (valueAt zs 0) ≤ 2 ^ 10 = pow-mono (range .1) in
-        ap (λ (k : ℕ). numberIn (tested (settingsOf zs) (readPositions (2 ^ k) 0 s))) m
+        ap (λ (k : ℕ). numberIn (tested largestRoom (settingsOf zs) (readPositions (2 ^ k) 0 s))) m
         ∙ rw (lines-block (2 ^ natAbs (valueAt zs 0)) 0 s (omega arith))
-        (tested-whole zs (lineValues (2 ^ natAbs (valueAt zs 0)) s) (lines-length (2 ^ natAbs (valueAt zs 0)) s))
+        (tested-whole zs (lineValues (2 ^ natAbs (valueAt zs 0)) s) small (lines-length (2 ^ natAbs (valueAt zs 0)) s))
     either false e = refl
 
 -- for every text, its number is that of its values as they are written
 pub compared-whole : (t : List ℕ) → numberIn (meaning t) ≡ wholeTextNumber t
-unfolding head meaning wholeTextNumber
+unfolding head meaning meaningIn wholeTextNumber
 compared-whole t = either (leb (length t) longestText)
   where
-    either : (ok : Bool) → numberIn (cond ok (sized (head t)) (refused 14)) ≡ check ok 14 (wholeSized (settingValues t))
+    either : (ok : Bool)
+        → numberIn (cond ok (sized largestRoom (head t)) (refused 14)) ≡ check ok 14 (wholeSized (settingValues t))
     either true = sized-whole (settingValues t)
     either false = refl

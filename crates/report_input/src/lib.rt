@@ -1,8 +1,8 @@
 // The report's input: a text of bytes becomes settings, mask and LLRs.
 // It sees `scan`, `settings` and the block length of `polar`. It promises the meaning that document 01 gives the text,
-// for every byte string, and that a refused text writes nothing.
+// for every byte string and all lengths of the lent slices, and that a refused text writes nothing.
 ghost use mathlib.Core.Path.{_≡_};
-ghost use Prim.Native.Nat.{_≤_, _<_, _^_};
+ghost use Prim.Native.Nat.{_≤_, _<_, _^_, min};
 ghost use lib.ListN.{length, drop};
 ghost use Rattle.calls.specs.Bounds.{largestM};
 ghost use Rattle.calls.specs.Numbers.{numberOf, between};
@@ -10,7 +10,7 @@ ghost use Rattle.scan.specs.Answers.{readTo, NextWithin};
 ghost use Rattle.scan.specs.Reading.{found};
 ghost use Rattle.report_input.specs.Input.{valueAt, unsigned, maskValue, llrValue, settingsOf, head};
 ghost use Rattle.report_input.specs.Input.{readPosition, readPositions, blockOf, blockOver};
-ghost use Rattle.report_input.specs.Input.{numberIn, tested, sized, meaning, InputRead};
+ghost use Rattle.report_input.specs.Input.{numberIn, tested, sized, meaningIn, roomOf, InputRead};
 ghost use Rattle.report_input.specs.Private.{headRead, HeadWithin, positionRead, PositionWithin};
 ghost use Rattle.report_input.specs.Private.{firstOf, positionsStored};
 use calls::Answer;
@@ -27,6 +27,12 @@ pub const LONGEST_TEXT: usize = 32768;
 
 // What a value below zero counts as: it lies outside every range as well.
 const OUTSIDE_RANGES: u32 = 1000000;
+
+// How many elements the lent slices of mask and LLRs have.
+pub struct Room {
+    pub mask: usize,
+    pub llr: usize,
+}
 
 // The settings of an accepted text, whose mask and LLRs stand in the lent slices.
 pub enum Input {
@@ -176,12 +182,18 @@ fn read_positions(text: &[u8], at: usize, n: usize, mask: &mut [u8], llr: &mut [
     Next::At(next)
 }
 
+fn smaller(a: usize, b: usize) -> usize
+    ensures { λ r. ⌜ r ≡ min a b ⌝ }
+{
+    if a < b { a } else { b }
+}
+
 // What refuses the lines of the positions, where the settings' m is in its range. They are read into memory of its own,
-// so that nothing is written yet.
-fn refusal(text: &[u8], at: usize, settings: Settings) -> Answer
+// so that nothing is written yet. The decoder's tests see as much of them as has room in the lent slices.
+fn refusal(text: &[u8], at: usize, settings: Settings, room: Room) -> Answer
     requires { ⌜ (at ≤ length (now text)) × (1 ≤ settings .m) × (settings .m ≤ largestM) ⌝ }
     ensures { λ r. ⌜ numberOf r
-        ≡ numberIn (tested settings (readPositions (2 ^ settings .m) 0 (drop at (now (text .entry))))) ⌝ }
+        ≡ numberIn (tested room settings (readPositions (2 ^ settings .m) 0 (drop at (now (text .entry))))) ⌝ }
 {
     let m = settings.m;
     let n = polar::power_of_two(m);
@@ -201,7 +213,11 @@ fn refusal(text: &[u8], at: usize, settings: Settings) -> Answer
         coded_mark: MOST_POSITIONS,
         work: MOST_WORKSPACE,
     };
-    settings::refusal(settings, &mask[..n], &llr[..n], lengths)
+    let mask_room = room.mask;
+    let llr_room = room.llr;
+    let mask_held = smaller(n, mask_room);
+    let llr_held = smaller(n, llr_room);
+    settings::refusal(settings, &mask[..mask_held], &llr[..llr_held], lengths)
 }
 
 // 1: m from 1 to 10.
@@ -212,22 +228,21 @@ fn is_block_length(m: u32) -> bool
 }
 
 // The lines of the positions behind the first three lines. Every test comes before the first write.
-fn read_block(
-    text: &[u8],
-    at: usize,
-    settings: Settings,
-    mask: &mut [u8; MOST_POSITIONS],
-    llr: &mut [i16; MOST_POSITIONS],
-) -> Input
+fn read_block(text: &[u8], at: usize, settings: Settings, mask: &mut [u8], llr: &mut [i16]) -> Input
     requires { ⌜ at ≤ length (now text) ⌝ }
-    ensures { λ r. ⌜ InputRead (sized (found settings (drop at (now (text .entry)))))
+    ensures { λ r. ⌜ InputRead (sized (roomOf (blockOf (now (mask .entry)) (now (llr .entry))))
+        (found settings (drop at (now (text .entry)))))
         (blockOf (now (mask .entry)) (now (llr .entry))) (blockOf (now (mask .exit)) (now (llr .exit))) r ⌝ }
 {
     let m = settings.m;
     if !is_block_length(m) {
         return Input::Refused(Refusal::BlockLength);
     }
-    match refusal(text, at, settings) {
+    let room = Room {
+        mask: mask.len(),
+        llr: llr.len(),
+    };
+    match refusal(text, at, settings, room) {
         Answer::Refused(refusal) => Input::Refused(refusal),
         Answer::Done => {
             read_positions(text, at, polar::power_of_two(m), mask, llr);
@@ -237,8 +252,8 @@ fn read_block(
 }
 
 // Settings, mask and LLRs of a text.
-pub fn read(text: &[u8], mask: &mut [u8; MOST_POSITIONS], llr: &mut [i16; MOST_POSITIONS]) -> Input
-    ensures { λ r. ⌜ InputRead (meaning (now (text .entry)))
+pub fn read(text: &[u8], mask: &mut [u8], llr: &mut [i16]) -> Input
+    ensures { λ r. ⌜ InputRead (meaningIn (roomOf (blockOf (now (mask .entry)) (now (llr .entry)))) (now (text .entry)))
         (blockOf (now (mask .entry)) (now (llr .entry))) (blockOf (now (mask .exit)) (now (llr .exit))) r ⌝ }
 {
     if LONGEST_TEXT < text.len() {

@@ -1,7 +1,7 @@
 -- `read` meets its contract.
 use mathlib.Core.Path.{ap, _∙_}
 use Rattle.calls.specs.declared.Refusal.the-variants.{MalformedText}
-use Rattle.report_input.specs.Input.{sized}
+use Rattle.report_input.specs.Input.{Block, blockOf, sized, roomOf}
 use Rattle.report_input.specs.InputLaws.{read-refused, meaning-long, meaning-sized}
 use Rattle.report_input.specs.Private.{headRead}
 use borrow.Author.Needs.{needs}
@@ -12,9 +12,14 @@ use Rattle.report_input.proofs.read.Lts as lts
 use Rattle.report_input.proofs.read_block.Reads as read-block-reads
 use Rattle.report_input.proofs.read_head.Reads as read-head-reads
 
+-- what the lent slices held
+abbrev given : tie.Start → Block
+given c = blockOf (c .args .mask .now) (c .args .llr .now)
+
 returns : tie.Need-returns
 returns c =
-    read-refused MalformedText (meaning-long (c .before .before .args .text .now) (c .if1 .taken))
+    let start = c .before .before .before in
+    read-refused MalformedText (meaning-long (roomOf (given start)) (start .args .text .now) (c .if1 .taken))
 
 read-head-requires : tie.Need-read-head-requires
 read-head-requires c κs = search needs
@@ -32,18 +37,28 @@ read-block-requires c κs =
 
 returns-2 : tie.Need-returns-2
 returns-2 c =
-    let t = c .before .before .before .before .before .args .text .now in
+    let start = c .before .before .before .before .before .before in
+    let room = roomOf (given start) in
+    let t = start .args .text .now in
     let first = c .before .before .read-head .ensures .0 ∙ ap (headRead t) (c .enum-told .given .1) in
-    read-refused MalformedText (meaning-sized t (c .before .before .before .if1 .left) ∙ ap sized first)
+    read-refused MalformedText (meaning-sized room t (c .before .before .before .if1 .left) ∙ ap (sized room) first)
+
+same-length : tie.Need-same-length
+same-length c = search needs
+
+same-length-2 : tie.Need-same-length-2
+same-length-2 c = search needs
 
 returns-3 : tie.Need-returns-3
 returns-3 c =
-    let told = c .before .before .before .before in
+    let read = c .before .before .before in
+    let told = read .before .before .before .before in
     let called = told .before .before in
     let test = called .before in
-    let t = test .before .before .args .text .now in
+    let start = test .before .before .before in
+    let t = start .args .text .now in
     let first = called .read-head .ensures .0 ∙ ap (headRead t) (told .settings .given .1) in
-    rw (meaning-sized t (test .if1 .left), first) (c .read-block .ensures)
+    rw (meaning-sized (roomOf (given start)) t (test .if1 .left), first) (read .read-block .ensures)
 
 pub read-spec : {M : Type 1} → statement M
 read-spec =
@@ -55,4 +70,6 @@ read-spec =
     enum-known-settings
     read-block-requires
     returns-2
+    same-length
+    same-length-2
     returns-3)

@@ -1,15 +1,20 @@
 -- `refusal` meets its contract.
 use Prim.Native.Nat.{ℕ, _^_, _≤_}
-use mathlib.Core.Path.{_≡_, sym, ap, _∙_}
+use mathlib.Core.Path.{_≡_, sym, ap, ap₂, _∙_}
 use mathlib.Core.List.{List}
 use native.Mathlib.Omega.{arith}
-use lib.ListN.{drop}
+use lib.ListN.{drop, take}
 use lib.Pow.{pow-mono}
 use lib.Seq.{length-take-le}
 use Rattle.scan.specs.Reading.{Reading, found}
 use Rattle.scan.specs.Answers.{readTo}
-use Rattle.report_input.specs.Input.{Block, blockOf, readPositions}
-use Rattle.report_input.specs.InputLaws.{lines-malformed, lines-followed, lines-number}
+use Rattle.report_input.specs.Input.{Block, blockOf, readPositions, blockNumber, heldIn}
+use Rattle.report_input.specs.InputLaws.{
+  lines-malformed,
+  lines-followed,
+  lines-number,
+  take-smaller,
+}
 use Rattle.report_input.specs.Private.{firstOf}
 use borrow.Author.Needs.{needs}
 use Rattle.report_input.proofs.refusal.Statement.{statement}
@@ -17,6 +22,7 @@ use Rattle.report_input.proofs.refusal.Tie as tie
 use Rattle.report_input.proofs.refusal.Reads as reads
 use Rattle.report_input.proofs.refusal.Lts as lts
 use Rattle.report_input.proofs.read_positions.Reads as read-positions-reads
+use Rattle.report_input.proofs.smaller.Reads as smaller-reads
 use Rattle.polar.proofs.power_of_two.Reads as power-of-two-reads
 use Rattle.settings.proofs.refusal.Reads as refusal-reads
 
@@ -52,6 +58,27 @@ module _ (c : tie.After-known-told) where
   at-end : lines reading ≡ found (block reading) (drop (c .before .read .given .0 .0) (text reading))
   at-end = read reading ∙ ap (readTo (text reading) (block reading)) (c .before .read .given .1)
 
+-- as much of the block as has room in the lent slices
+module _ (c : tie.After-smaller2) where
+  abbrev told : tie.After-known-told
+  told = c .before .before .before
+
+  abbrev size : tie.After-power-of-two
+  size = reading told .before .before .before
+
+  abbrev stored : Block
+  stored = let read = reading told .read-positions .last .1 .1 .1 in blockOf (read .0) (read .1 .0)
+
+  held : blockOf (take (c .before .smaller .result) (stored .mask)) (take (c .smaller2 .result) (stored .llr))
+      ≡ heldIn (start (reading told) .args .room) (block (reading told))
+  held =
+      let n = size .power-of-two .result in
+      let room = start (reading told) .args .room in
+      ap₂ blockOf
+      (ap (λ (k : ℕ). take k (stored .mask)) (c .before .smaller .ensures)
+      ∙ take-smaller n (room .mask) (stored .mask))
+      (ap (λ (k : ℕ). take k (stored .llr)) (c .smaller2 .ensures) ∙ take-smaller n (room .llr) (stored .llr))
+
 power-of-two-requires : tie.Need-power-of-two-requires
 power-of-two-requires c κs = search needs
 
@@ -74,26 +101,31 @@ enum-told c = search needs
 returns : tie.Need-returns
 returns c =
     let r = c .before .before .before .before in
-    lines-malformed (start r .args .settings) _ (read r ∙ ap (readTo (text r) (block r)) (c .enum-told .given .1))
+    lines-malformed (start r .args .room) (start r .args .settings) _ (read r ∙ ap (readTo (text r) (block r)) (c .enum-told .given .1))
 
 returns-2 : tie.Need-returns-2
 returns-2 c =
     let r = reading (c .before) in
-    lines-followed (start r .args .settings) _ (block r) (c .before .before .read .given .0 .0) (text r)
+    lines-followed (start r .args .room) (start r .args .settings) _ (block r) (c .before .before .read .given .0 .0) (text r)
     (at-end (c .before)) (c .if1 .taken)
+
+smaller-requires : tie.Need-smaller-requires
+smaller-requires c κs = search needs
+
+smaller-requires-2 : tie.Need-smaller-requires-2
+smaller-requires-2 c κs = search needs
 
 array-share-prefix-mask : tie.Need-array-share-prefix-mask
 array-share-prefix-mask c =
-    let r = c .before .before .before .before .before in
-    omega (arith, r .mask2 .given, small (r .before .before .before .before))
+    omega (arith, c .before .smaller .ensures, told c .before .before .before .before .mask2 .given, small (size c))
 
 slice-aggregate-refusal : tie.Need-slice-aggregate-refusal
 slice-aggregate-refusal c = sym (length-take-le _ _ (array-share-prefix-mask (c .before)))
 
 array-share-prefix-llr : tie.Need-array-share-prefix-llr
 array-share-prefix-llr c =
-    let r = c .before .before .before .before .before in
-    omega (arith, r .llr2 .given, small (r .before .before .before .before .before))
+    let k = c .before in
+    omega (arith, k .smaller2 .ensures, told k .before .before .before .llr2 .given, small (size k))
 
 slice-aggregate-refusal-2 : tie.Need-slice-aggregate-refusal-2
 slice-aggregate-refusal-2 c = sym (length-take-le _ _ (array-share-prefix-llr (c .before)))
@@ -103,10 +135,12 @@ refusal-requires c κs = search needs
 
 returns-3 : tie.Need-returns-3
 returns-3 c =
-    let told = c .before .before .before .before in
-    let r = reading told in
+    let k = c .before .before .before in
+    let r = reading (told k) in
+    let s = start r .args .settings in
     c .refusal .ensures
-    ∙ lines-number (start r .args .settings) _ (block r) _ (text r) (at-end told) (c .before .before .before .if1 .left)
+    ∙ ap (blockNumber s) (held k)
+    ∙ lines-number (start r .args .room) s _ (block r) _ (text r) (at-end (told k)) (k .before .before .if1 .left)
 
 pub refusal-spec : {M : Type 1} → statement M
 refusal-spec =
@@ -120,6 +154,8 @@ refusal-spec =
     enum-told
     returns
     returns-2
+    smaller-requires
+    smaller-requires-2
     array-share-prefix-mask
     slice-aggregate-refusal
     array-share-prefix-llr
