@@ -1,10 +1,11 @@
 -- What an answer of `read` tells its caller of the text.
 use Prim.Native.Nat.{ℕ, _^_}
-use mathlib.Core.Path.{_≡_, refl, sym, ap, _∙_}
+use mathlib.Core.Path.{_≡_, refl, sym, ap, _∙_, subst}
 use mathlib.Core.Bool.{Bool, true, false, true≢false}
 use mathlib.Core.List.{List}
 use lib.ListN.{length, drop, take}
 use lib.Seq.{take-at}
+use Rattle.calls.specs.Bounds.{mostPositions}
 use Rattle.calls.specs.declared.Refusal.{Refusal}
 use Rattle.calls.specs.Numbers.{refusalNumber}
 use Rattle.settings.specs.declared.Settings.{Settings}
@@ -14,6 +15,8 @@ use Rattle.report_input.specs.Input.{
   refused,
   block,
   meaningIn,
+  meaning,
+  roomOf,
   ReadAnswer,
   accepted,
   rejected,
@@ -21,10 +24,9 @@ use Rattle.report_input.specs.Input.{
   InputRead,
 }
 use Rattle.report_input.specs.Private.{firstOf}
-use Rattle.report_input.specs.InputLaws.{Fit, Means, meaning-in-fit}
+use Rattle.report_input.specs.InputLaws.{Fit, Long, Means, meaning-fit}
 use Rattle.report_input.specs.declared.Input.{Input}
 use Rattle.report_input.specs.declared.Input.the-variants.{Accepted, Refused}
-use Rattle.report_input.specs.declared.Room.{Room}
 
 abbrev isAccepted : ReadAnswer → Bool
 isAccepted (accepted s) = true
@@ -66,11 +68,19 @@ module _ {old new : Block} {r : Input} where
   of-refused (block s b) refusal read e =
       absurd (true≢false (ap isAccepted (sym (read .answer) ∙ ap answerOf e)))
 
-  module _ (room : Room) (t : List ℕ) where
-    pub accepted-text : {s : Settings} {n : ℕ} → InputRead (meaningIn room t) old new r → r ≡ Accepted s
-        → n ≡ 2 ^ s .m → AcceptedText (meaningIn room t) s (firstOf n new)
-    accepted-text {s} {n} read e size = of-accepted (meaningIn room t) s n (meaning-in-fit room t) read e size
+-- with slices for a block of any length a text has its own meaning
+meaning-lent : (lent : Block) (t : List ℕ) → Long mostPositions lent → meaningIn (roomOf lent) t ≡ meaning t
+unfolding meaning
+meaning-lent lent t long = rw (long .mask-long, long .llr-long)
 
-    pub refused-text : {refusal : Refusal} → InputRead (meaningIn room t) old new r → r ≡ Refused refusal
-        → meaningIn room t ≡ refused (refusalNumber refusal)
-    refused-text {refusal} read e = of-refused (meaningIn room t) refusal read e
+module _ (t : List ℕ) {old new : Block} {r : Input} (long : Long mostPositions old)
+    (read : InputRead (meaningIn (roomOf old) t) old new r) where
+  pub accepted-text : {s : Settings} {n : ℕ} → r ≡ Accepted s → n ≡ 2 ^ s .m
+      → AcceptedText (meaning t) s (firstOf n new)
+  accepted-text {s} {n} e size =
+      of-accepted (meaning t) s n (meaning-fit t)
+      (subst (λ (means : Meaning). InputRead means old new r) (meaning-lent old t long) read) e size
+
+  pub refused-text : {refusal : Refusal} → r ≡ Refused refusal → meaning t ≡ refused (refusalNumber refusal)
+  refused-text {refusal} e =
+      sym (meaning-lent old t long) ∙ of-refused (meaningIn (roomOf old) t) refusal read e

@@ -11,9 +11,6 @@ use mir.Facts.{toZ-pos}
 use Rattle.format.proofs.Values.{widened}
 use Rattle.report_text.specs.Report.{positionValues}
 
-pub natural-held : (n : ℕ) → n ≤ 9999 → toZ w32 n ≡ pos n
-natural-held n h = toZ-pos w32 (omega arith)
-
 -- the five values of a line, as the code holds them
 abbrev pub widenedValues : ℕ → ℤ → ℕ → ℤ → ℕ → List ℤ
 widenedValues p soft mark codedSoft codedMark =

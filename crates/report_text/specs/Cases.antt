@@ -10,8 +10,9 @@ use Rattle.scan.specs.Numbers.{digits, natural, number}
 use Rattle.scan.specs.Lines.{spaces, separator, line, literal}
 use Rattle.calls.specs.Texts.{bytes}
 use Rattle.format.specs.Decimal as format
+use Rattle.format.specs.Texts.{positionLines, refusalText}
 use Rattle.report_input.specs.Input as input
-use Rattle.report_text.specs.Report.{refusalText, positionLines, outcomeText, report}
+use Rattle.report_text.specs.Report.{outcomeText, report}
 
 -- the first three lines of document 01's input
 abbrev names : List ℕ
@@ -29,6 +30,6 @@ pub reports : map (λ block. report (names ++ block)) blocks
     ∷ []
 unfolding add f setRow leftStep rightStep start after ending
     digits natural number spaces separator line literal
-    input.head input.readPosition input.readPositions input.meaning
+    input.head input.readPosition input.readPositions input.meaningIn input.meaning
     format.digits format.decimal format.shown format.line refusalText positionLines outcomeText report
 reports = refl

@@ -1,6 +1,6 @@
 -- Document 01, "The report's text": the output, and the report as a whole, from the bytes of a text to bytes.
 -- Definitions only.
-use Prim.Native.Nat.{ℕ, zero, suc, _^_, _≤_}
+use Prim.Native.Nat.{ℕ, _^_, _≤_}
 use mathlib.Core.Path.{_≡_}
 use mathlib.Core.List.{List, [], _∷_, _++_}
 use lib.IntN.{ℤ, pos}
@@ -9,6 +9,7 @@ use Rattle.settings.specs.declared.Settings.{Settings}
 use Rattle.decoder.specs.Decoder.{Ending, ending, final, softAt, markAt, codedSoftAt, codedMarkAt}
 use Rattle.calls.specs.Texts.{bytes}
 use Rattle.format.specs.Decimal.{line}
+use Rattle.format.specs.Texts.{positionLines, refusalText}
 use Rattle.calls.specs.Bounds.{mostWorkspace}
 use Rattle.report_input.specs.Input.{Block, Meaning, refused, block, meaning}
 
@@ -16,17 +17,7 @@ use Rattle.report_input.specs.Input.{Block, Meaning, refused, block, meaning}
 abbrev pub reportRoom : ℕ
 reportRoom = 32768
 
--- ---- a refusal: `refused`, then the number on its own line
-
-unfoldable pub refusalText : ℕ → List ℕ
-refusalText number = bytes "refused\n" ++ line (pos number ∷ [])
-
 -- ---- an outcome
-
--- a line for each of n positions from p on
-unfoldable pub positionLines : (ℕ → List ℤ) → ℕ → ℕ → List ℕ
-positionLines values zero p = []
-positionLines values (suc n) p = line (values p) ++ positionLines values n (suc p)
 
 -- of a position its number, soft output, mark, coded soft output and coded mark
 abbrev pub positionValues : ℕ → ℤ → ℕ → ℤ → ℕ → List ℤ

@@ -1,4 +1,4 @@
--- Laws of the output: its lines one by one, that its room suffices, and what the decoder leaves for an accepted block.
+-- Laws of the output: that its room suffices, and what the decoder leaves for an accepted block.
 use Prim.Native.Nat.{ℕ, zero, suc, _+_, _-_, _*_, _^_, _≤_, _<_}
 use mathlib.Core.Path.{_≡_, refl, sym, ap, ap₂, _∙_, subst}
 use mathlib.Core.Bool.{Bool, true, false, true≢false}
@@ -50,51 +50,18 @@ use Rattle.settings.specs.Slices.{Slices, lengthsOf}
 use Rattle.calls.specs.Texts.{bytes}
 use Rattle.format.specs.Decimal.{line}
 use Rattle.format.specs.DecimalLaws.{line-length}
+use Rattle.format.specs.Texts.{positionLines}
+use Rattle.format.specs.TextLaws.{position-lines-same, position-lines-length}
 use Rattle.report_input.specs.Input.{Block, largestLengths}
 use Rattle.report_input.specs.InputLaws.{Fit}
-use Rattle.report_text.specs.Report.{positionLines, outputsAt, outcomeText, blockText}
+use Rattle.report_text.specs.Report.{outputsAt, outcomeText, blockText}
 use Rattle.report_text.specs.Private.{sliceValues, endingAt, headingText}
-
--- ---- the lines of the positions, one by one
-
-pub position-lines-next : (values : ℕ → List ℤ) (n i : ℕ) → i < n
-    → positionLines values (n - i) i ≡ line (values i) ++ positionLines values (n - (i + 1)) (i + 1)
-unfolding positionLines
-position-lines-next values n i h = let left : n - i ≡ suc (n - suc i) = omega arith in rw (left, add-one i)
-
-pub position-lines-end : (values : ℕ → List ℤ) (n : ℕ) → positionLines values (n - n) n ≡ []
-unfolding positionLines
-position-lines-end values n = let left : n - n ≡ 0 = omega arith in rw left
-
--- only the values of the positions count
-pub position-lines-same : (values values′ : ℕ → List ℤ) (n p : ℕ)
-    → ((i : ℕ) → p ≤ i → i < p + n → values i ≡ values′ i)
-    → positionLines values n p ≡ positionLines values′ n p
-unfolding positionLines
-position-lines-same values values′ zero p same = refl
-position-lines-same values values′ (suc n) p same =
-    ap₂ (λ (a b : List ℕ). a ++ b) (ap line (same p (omega arith) (omega arith)))
-    (position-lines-same values values′ n (suc p) (λ i l h. same i (omega arith) (omega arith)))
 
 -- ---- room
 
 pub reason-le : (r : Reason) → reasonNumber r ≤ 2
 reason-le Criterion = lit≤ tt
 reason-le Limit = lit≤ tt
-
-pub position-lines-room : (values : ℕ → List ℤ) (n p : ℕ)
-    → ((i : ℕ) → p ≤ i → i < p + n → length (line (values i)) ≤ 30)
-    → length (positionLines values n p) ≤ 30 * n
-unfolding positionLines
-position-lines-room values zero p short = omega arith
-position-lines-room values (suc n) p short =
-    let rest = position-lines-room values n (suc p) (λ i l h. short i (omega arith) (omega arith)) in
-    omega (
-      arith,
-      rest,
-      short p (omega arith) (omega arith),
-      length-append (line (values p)) (positionLines values n (suc p)),
-    )
 
 pub outputs-short : (s : Settings) (mask : List ℕ) (w : List ℤ) (i : ℕ) → s .ceiling ≤ largestCeiling
     → i < mostPositions
@@ -189,7 +156,7 @@ module _ {s : Settings} {block : Block} {work : List ℤ} {after : Slices} {r : 
 
   pub block-room : (n : ℕ) → n ≡ 2 ^ s .m → length (positionLines shownValues n 0) ≤ 30 * n
   block-room n e =
-      position-lines-room shownValues n 0 (λ i l h.
+      position-lines-length 30 shownValues n 0 (λ i l h.
       rw (b .values i (omega arith))
       (outputs-short s (block .mask) (finalOn s block work) i (b .ceiling-le) (omega (arith, b .size))))
 

@@ -5,19 +5,17 @@
 ghost use mathlib.Core.Path.{_≡_};
 ghost use Prim.Native.Nat.{_+_, _*_, _≤_};
 ghost use lib.ListN.{length};
-ghost use Rattle.calls.specs.Numbers.{refusalNumber};
 ghost use Rattle.calls.specs.Bounds.{mostPositions, mostWorkspace};
 ghost use Rattle.report_input.specs.Input.{blockOf};
 ghost use Rattle.report_input.specs.InputLaws.{Fit};
 ghost use Rattle.format.specs.Decimal.{line};
+ghost use Rattle.format.specs.Texts.{positionLines};
 ghost use Rattle.format.specs.Wrote.{Wrote};
-ghost use Rattle.report_text.specs.Report.{Within, reportRoom, refusalText, positionValues, positionLines};
+ghost use Rattle.report_text.specs.Report.{Within, reportRoom, positionValues};
 ghost use Rattle.report_text.specs.Report.{outcomeText, blockText, report};
 ghost use Rattle.report_text.specs.Private.{sliceValues, endingAt, headingText};
-use calls::Answer;
 use calls::MOST_POSITIONS;
 use calls::MOST_WORKSPACE;
-use calls::Refusal;
 use decoder::Outcome;
 use decoder::Reason;
 use report_input::Input;
@@ -25,17 +23,6 @@ use settings::Settings;
 
 // The room that is enough for every output.
 pub const REPORT_ROOM: usize = 32768;
-
-// A refusal.
-fn refused(out: &mut [u8], refusal: Refusal) -> usize
-    requires { ⌜ reportRoom ≤ length (now out) ⌝ }
-    ensures { λ r. ⌜ Wrote (now (out .entry)) 0 (refusalText (refusalNumber refusal)) (now (out .exit)) r ⌝ }
-    ensures { λ r. ⌜ r ≤ reportRoom ⌝ }
-{
-    let number = calls::number(Answer::Refused(refusal));
-    let end = format::copy(out, 0, b"refused\n");
-    format::line(out, end, &[number as i32])
-}
 
 // The line of a position.
 fn position_line(
@@ -150,7 +137,7 @@ fn decoded(out: &mut [u8], settings: Settings, mask: &[u8], llr: &[i16], work: &
         work,
     );
     match answer {
-        Outcome::Refused(refusal) => refused(out, refusal),
+        Outcome::Refused(refusal) => format::refused(out, refusal),
         Outcome::Ended(iterations, reason) => {
             let n = polar::power_of_two(settings.m);
             outcome(
@@ -167,19 +154,28 @@ fn decoded(out: &mut [u8], settings: Settings, mask: &[u8], llr: &[i16], work: &
     }
 }
 
-// The report of a text: `&out[..report(text, &mut out)]`.
-pub fn report(text: &[u8], out: &mut [u8; REPORT_ROOM]) -> usize
+// The report of a text, in a slice with room for every output.
+pub fn report_into(text: &[u8], out: &mut [u8]) -> usize
+    requires { ⌜ reportRoom ≤ length (now out) ⌝ }
     ensures { λ r. ⌜ Wrote (now (out .entry)) 0 (report (now (text .entry))) (now (out .exit)) r ⌝ }
-    ensures { λ r. ⌜ Within r (now (out .exit)) ⌝ }
+    ensures { λ r. ⌜ r ≤ reportRoom ⌝ }
 {
     let mut mask = [0u8; MOST_POSITIONS];
     let mut llr = [0i16; MOST_POSITIONS];
     match report_input::read(text, &mut mask, &mut llr) {
-        Input::Refused(refusal) => refused(out, refusal),
+        Input::Refused(refusal) => format::refused(out, refusal),
         Input::Accepted(settings) => {
             let n = polar::power_of_two(settings.m);
             let mut work = [0i16; MOST_WORKSPACE];
             decoded(out, settings, &mask[..n], &llr[..n], &mut work)
         }
     }
+}
+
+// The report of a text: `&out[..report(text, &mut out)]`.
+pub fn report(text: &[u8], out: &mut [u8; REPORT_ROOM]) -> usize
+    ensures { λ r. ⌜ Wrote (now (out .entry)) 0 (report (now (text .entry))) (now (out .exit)) r ⌝ }
+    ensures { λ r. ⌜ Within r (now (out .exit)) ⌝ }
+{
+    report_into(text, out)
 }

@@ -5,6 +5,7 @@ use native.Mathlib.Omega.{arith}
 use Prim.Native.Nat.{ℕ}
 use lib.IntN.{pos}
 use lib.ListN.{replicate, length-replicate}
+use Rattle.format.specs.TextLaws.{refusal-length}
 use Rattle.format.specs.Wrote.{Wrote}
 use Rattle.settings.specs.Slices.{Slices, slices, lengthsOf}
 use Rattle.calls.specs.Bounds.{mostPositions}
@@ -75,7 +76,10 @@ enum-known-answer : tie.Need-enum-known-answer
 enum-known-answer c = search needs
 
 refused-requires : tie.Need-refused-requires
-refused-requires c κs = search needs
+refused-requires c κs =
+    let told = c .before .before in
+    let s = start (told .before .before .before .before .before .before .before) in
+    omega (arith, refusal-length (told .answer .given .0 .0), s .pre .1 .1)
 
 enum-known-answer-2 : tie.Need-enum-known-answer-2
 enum-known-answer-2 c = search needs

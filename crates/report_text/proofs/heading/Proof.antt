@@ -13,7 +13,7 @@ use Rattle.format.specs.DecimalLaws.{line-length}
 use Rattle.format.specs.Wrote.{Wrote}
 use Rattle.format.specs.WroteLaws.{wrote-then, wrote-length}
 use Rattle.report_text.specs.ReportLaws.{reason-le}
-use Rattle.report_text.proofs.Values.{natural-held}
+use Rattle.format.proofs.Values.{natural-held}
 use borrow.Author.Needs.{needs}
 use Rattle.report_text.proofs.heading.Statement.{statement}
 use Rattle.report_text.proofs.heading.Tie as tie

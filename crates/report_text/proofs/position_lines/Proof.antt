@@ -9,9 +9,10 @@ use mir.Syntax.{w16}
 use mir.Val.{toZ, ofZ}
 use mir.Facts.{toZ-ofZ}
 use Rattle.format.specs.Decimal.{line}
+use Rattle.format.specs.Texts.{positionLines}
+use Rattle.format.specs.TextLaws.{position-lines-next, position-lines-end}
 use Rattle.format.specs.WroteLaws.{Writing, writing-starts, writing-next, writing-ends, writing-room, writing-length}
-use Rattle.report_text.specs.Report.{positionValues, positionLines}
-use Rattle.report_text.specs.ReportLaws.{position-lines-next, position-lines-end}
+use Rattle.report_text.specs.Report.{positionValues}
 use Rattle.report_text.specs.Private.{sliceValues}
 use Rattle.report_text.proofs.position_lines.Statement.{statement}
 use Rattle.report_text.proofs.position_lines.Tie as tie

@@ -1,140 +1,24 @@
 -- `report` meets its contract.
-use Prim.Native.Nat.{ℕ, _≤_}
-use mathlib.Core.Path.{_≡_, refl, sym, ap, _∙_, subst}
-use mathlib.Core.List.{List}
+use Prim.Native.Nat.{_≤_}
+use mathlib.Core.Path.{sym}
 use native.Mathlib.Omega.{arith}
-use lib.IntN.{pos}
-use lib.ListN.{length, take, length-take, length-replicate}
+use lib.ListN.{length}
 use lib.Seq.{length-take-le}
-use Rattle.format.specs.Wrote.{Wrote}
 use Rattle.format.specs.WroteLaws.{wrote-length}
-use Rattle.calls.specs.Bounds.{mostWorkspace}
-use Rattle.report_input.specs.Input.{Block, blockOf, meaning}
-use Rattle.report_input.specs.Private.{firstOf}
-use Rattle.report_input.specs.ReadLaws.{AcceptedText, accepted-text, refused-text}
-use Rattle.report_text.specs.Report.{Within, reportRoom, textOf, report}
-use Rattle.report_text.specs.ReportLaws.{fit-length}
 use borrow.Author.Needs.{needs}
 use Rattle.report_text.proofs.report.Statement.{statement}
 use Rattle.report_text.proofs.report.Tie as tie
-use Rattle.report_text.proofs.report.Reads as reads
-use Rattle.report_text.proofs.report.Lts as lts
-use Rattle.report_input.proofs.read.Reads as read-reads
-use Rattle.report_text.proofs.decoded.Reads as decoded-reads
-use Rattle.report_text.proofs.refused.Reads as refused-reads
-use Rattle.polar.proofs.power_of_two.Reads as power-of-two-reads
+use Rattle.report_text.proofs.report_into.Reads as report-into-reads
 
-within : {old new x : List ℕ} {n : ℕ} → Wrote old 0 x new n → n ≤ reportRoom → length old ≡ reportRoom → Within n new
-within {new = new} {n = n} w h e =
-    let long = wrote-length w in
-    (omega (arith, long), sym (length-take-le n new (omega (arith, long))))
-
--- what the function is handed, and what the slices hold, seen from behind the reading
-module _ (c : tie.After-read) where
-  abbrev start : tie.Start
-  start = c .before .before .before .before
-
-  abbrev slices : Block
-  slices = blockOf (c .read .last .1 .0) (c .read .last .1 .1 .0)
-
--- the text that was accepted
-module _ (c : tie.After-power-of-two) where
-  abbrev reading : tie.After-read
-  reading = c .before .before .before .before
-
-  abbrev n : ℕ
-  n = c .power-of-two .result
-
-  text : AcceptedText (meaning (start reading .args .text .now)) (c .before .before .settings .given .0 .0)
-      (firstOf n (slices reading))
-  text =
-      accepted-text (start reading .args .text .now) (reading .read .ensures) (c .before .before .settings .given .1)
-      (c .power-of-two .ensures)
-
-  -- its mask and LLRs have as many elements as the part that is lent
-  mask-long : n ≡ length (take n (slices reading .mask))
-  mask-long = c .power-of-two .ensures ∙ sym (text .fit .long .mask-long)
-
-  llr-long : n ≡ length (take n (slices reading .llr))
-  llr-long = c .power-of-two .ensures ∙ sym (text .fit .long .llr-long)
-
-read-requires : tie.Need-read-requires
-read-requires c κs = search needs
-
-enum-known-refusal : tie.Need-enum-known-refusal
-enum-known-refusal c = search needs
-
-refused-requires : tie.Need-refused-requires
-refused-requires c κs = search needs
-
-enum-known-settings : tie.Need-enum-known-settings
-enum-known-settings c = search needs
-
-power-of-two-requires : tie.Need-power-of-two-requires
-power-of-two-requires c κs =
-    let r = c .before .before .before in
-    fit-length (accepted-text (start r .args .text .now) (r .read .ensures) (c .before .settings .given .1) refl .fit)
-
-array-share-prefix-mask : tie.Need-array-share-prefix-mask
-array-share-prefix-mask c =
-    let m = c .before in omega (arith, length-take (n m) (slices (reading m) .mask), mask-long m)
-
-slice-aggregate-decoded : tie.Need-slice-aggregate-decoded
-slice-aggregate-decoded c = mask-long (c .before .before)
-
-array-share-prefix-llr : tie.Need-array-share-prefix-llr
-array-share-prefix-llr c =
-    let m = c .before .before in omega (arith, length-take (n m) (slices (reading m) .llr), llr-long m)
-
-slice-aggregate-decoded-2 : tie.Need-slice-aggregate-decoded-2
-slice-aggregate-decoded-2 c = llr-long (c .before .before .before)
-
-slice-aggregate-decoded-3 : tie.Need-slice-aggregate-decoded-3
-slice-aggregate-decoded-3 c = search needs
-
-decoded-requires : tie.Need-decoded-requires
-decoded-requires c κs = (
-  text (c .before .before .before .before) .fit,
-  (length-replicate mostWorkspace (pos 0), omega (arith, c .before .before .before .decoded-arg .given)),
-)
+report-into-requires : tie.Need-report-into-requires
+report-into-requires c κs = search needs
 
 returns : tie.Need-returns
-unfolding report
 returns c =
-    let r = c .before .before .before .before .before in
-    let a = start r .args in
-    let written = c .refused in
-    let means = refused-text (a .text .now) (r .read .ensures) (c .before .before .before .refusal .given .1) in (
-      subst (λ (text : List ℕ). Wrote (a .out .now) 0 text (written .last .0) (written .result))
-          (sym (ap textOf means)) (written .ensures .0),
-      within (written .ensures .0) (written .ensures .1) (c .before .refused-arg .given .0 .1),
-    )
-
-returns-2 : tie.Need-returns-2
-unfolding report
-returns-2 c =
-    let m = c .before .before .before .before .before .before in
-    let written = c .before .decoded in (
-      subst (λ (text : List ℕ). Wrote (start (reading m) .args .out .now) 0 text (written .last .0) (written .result))
-          (sym (ap textOf (text m .is))) (written .ensures .0),
-      within (written .ensures .0) (written .ensures .1)
-          (c .before .before .before .before .before .decoded-arg .given .0 .1),
-    )
+    let written = c .report-into .ensures in
+    let long = wrote-length (written .0) in
+    let room : c .report-into .result ≤ length (c .report-into .last .1 .0) = omega (arith, long, written .1) in
+    (written .0, (room, sym (length-take-le _ _ room)))
 
 pub report-spec : {M : Type 1} → statement M
-report-spec =
-    tie.close
-    (tie.spec
-    read-requires
-    enum-known-refusal
-    refused-requires
-    enum-known-settings
-    power-of-two-requires
-    array-share-prefix-mask
-    slice-aggregate-decoded
-    array-share-prefix-llr
-    slice-aggregate-decoded-2
-    slice-aggregate-decoded-3
-    decoded-requires
-    returns
-    returns-2)
+report-spec = tie.close (tie.spec report-into-requires returns)
