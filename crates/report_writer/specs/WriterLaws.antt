@@ -1,0 +1,243 @@
+-- Laws of the tidy text: it writes the first N elements of a block and no other, its values and lines are short, and
+-- reading it gives the settings and the block back.
+use Prim.Native.Nat.{ℕ, zero, suc, _+_, _*_, _^_, _<_, _≤_, min}
+use mathlib.Core.Path.{_≡_, refl, sym, ap, ap₂, _∙_}
+use mathlib.Core.Bool.{true}
+use mathlib.Core.List.{List, [], _∷_, _++_, append-assoc}
+use native.Mathlib.Omega.{arith}
+use lib.Dec.{leb, leb·zero, leb·suc-suc}
+use lib.IntN.{ℤ, pos, negsuc, negℤ, natAbs}
+use lib.ListN.{length, getD, drop, take, length-append}
+use lib.Pow.{pow-mono}
+use lib.Seq.{drop-cons, getD-take, take-all}
+use borrow.Author.Tests.{leb-true, eqb-true, le-leb, eq-eqb}
+use Rattle.calls.specs.Bounds.{largestM, largestCeiling, mostPositions}
+use Rattle.calls.specs.EveryLaws.{every-at, every-same}
+use Rattle.calls.specs.Numbers.{between}
+use Rattle.calls.specs.NumberLaws.{between-passed}
+use Rattle.format.specs.Decimal.{line}
+use Rattle.format.specs.DecimalLaws.{FourDigits, line-length}
+use Rattle.format.specs.Texts.{positionLines}
+use Rattle.format.specs.TextLaws.{position-lines-same, position-lines-length}
+use Rattle.polar.specs.Code.{informationCount}
+use Rattle.polar.specs.Mask.{maskAccepted, isMaskByte}
+use Rattle.report_input.specs.Input.{
+  longestText,
+  outsideMask,
+  outsideLlr,
+  settingNames,
+  positionNames,
+  llrValue,
+  Block,
+  blockOf,
+  head,
+  readPosition,
+  readPositions,
+  block,
+  blockNumber,
+  largestLengths,
+  meaning,
+}
+use Rattle.report_input.specs.InputLaws.{read-position-found, head-found, Fit, meaning-fit}
+use Rattle.report_input.specs.Private.{firstOf}
+use Rattle.report_writer.specs.ReadBackLaws.{line-back, literal-back}
+use Rattle.report_writer.specs.Writer.{valuesOf, positionValues, tidyText}
+use Rattle.scan.specs.Reading.{found}
+use Rattle.settings.specs.declared.Settings.{Settings}
+use Rattle.settings.specs.Settings.{operandFits, withinCeiling}
+use Rattle.settings.specs.SettingsLaws.{Accepted, accepted}
+
+-- ---- the first N elements of a block: nothing else is tested or written
+
+first-long : {A : Type 0} (n : ℕ) (l : List A) → leb n (length (take n l)) ≡ leb n (length l)
+first-long zero l = leb·zero (length (take zero l)) ∙ sym (leb·zero (length l))
+first-long (suc n) [] = refl
+first-long (suc n) (a ∷ l) =
+    leb·suc-suc n (length (take n l)) ∙ first-long n l ∙ sym (leb·suc-suc n (length l))
+
+first-mask : (n : ℕ) (mask : List ℕ) → maskAccepted n (take n mask) ≡ maskAccepted n mask
+first-mask n mask = every-same n _ _ (λ i h. ap isMaskByte (getD-take n mask i 0 h))
+
+first-count : (k n : ℕ) (mask : List ℕ) → n ≤ k → informationCount (take k mask) n ≡ informationCount mask n
+first-count k zero mask h = refl
+first-count k (suc n) mask h = rw (first-count k n mask (omega arith), getD-take k mask n 0 h)
+
+first-within : (n C : ℕ) (llr : List ℤ) → withinCeiling n C (take n llr) ≡ withinCeiling n C llr
+first-within n C llr =
+    every-same n _ _ (λ i h. ap (λ (z : ℤ). leb (natAbs z) C) (getD-take n llr i (pos 0) h))
+
+pub first-number : (s : Settings) (b : Block) → blockNumber s (firstOf (2 ^ s .m) b) ≡ blockNumber s b
+first-number s b =
+    let n = 2 ^ s .m in
+    rw (
+      first-long n (b .mask),
+      first-long n (b .llr),
+      first-mask n (b .mask),
+      first-count n n (b .mask) (omega arith),
+      first-within n (s .ceiling) (b .llr),
+    )
+
+pub tidy-first : (s : Settings) (b : Block) → tidyText s (firstOf (2 ^ s .m) b) ≡ tidyText s b
+unfolding tidyText
+tidy-first s b =
+    let n = 2 ^ s .m in
+    ap (λ (lines : List ℕ). settingNames ++ line (valuesOf s) ++ positionNames ++ lines)
+    (position-lines-same (positionValues (firstOf n b)) (positionValues b) n 0
+    (λ i _ h. let l : i < n = omega arith in rw (getD-take n (b .mask) i 0 l, getD-take n (b .llr) i (pos 0) l)))
+
+-- ---- what is written of an accepted block: values of at most four digits, in short lines
+
+operand-le : (C criterion operand : ℕ) → operandFits C criterion operand ≡ true → operand ≤ C + 8
+operand-le C zero operand e = omega (arith, eqb-true operand 0 e)
+operand-le C (suc zero) operand e = omega (arith, eqb-true operand 0 e)
+operand-le C (suc (suc zero)) operand e = omega (arith, between-passed 1 C operand e .1)
+operand-le C (suc (suc (suc n))) operand e = omega (arith, between-passed 1 8 operand e .1)
+
+module _ (s : Settings) (b : Block) (none : blockNumber s b ≡ 0) where
+  facts : Accepted s (b .mask) (b .llr) largestLengths
+  facts = accepted s (b .mask) (b .llr) largestLengths none
+
+  positions-le : 2 ^ s .m ≤ mostPositions
+  positions-le = pow-mono (facts .settings .m-le)
+
+  mask-le : (p : ℕ) → p < 2 ^ s .m → getD (b .mask) p 0 ≤ 1
+  mask-le p h =
+      leb-true (getD (b .mask) p 0) 1
+      (every-at (2 ^ s .m) p (λ i. isMaskByte (getD (b .mask) i 0)) (facts .values) h)
+
+  llr-le : (p : ℕ) → p < 2 ^ s .m → natAbs (getD (b .llr) p (pos 0)) ≤ largestCeiling
+  llr-le p h = let a = facts .settings in omega (arith, facts .within p h)
+
+  pub values-digits : FourDigits (valuesOf s)
+  values-digits =
+      let a = facts .settings in
+      omega (arith, operand-le (s .ceiling) (s .criterion) (s .operand) (a .operand))
+
+  pub position-digits : (p : ℕ) → p < 2 ^ s .m → FourDigits (positionValues b p)
+  position-digits p h = omega (arith, positions-le, mask-le p h, llr-le p h)
+
+  pub settings-line : length (line (valuesOf s)) ≤ 36
+  settings-line = line-length (valuesOf s) values-digits
+
+  pub position-line : (p : ℕ) → p < 2 ^ s .m → length (line (positionValues b p)) ≤ 18
+  position-line p h = line-length (positionValues b p) (position-digits p h)
+
+  lines-length : length (positionLines (positionValues b) (2 ^ s .m) 0) ≤ 18 * 2 ^ s .m
+  lines-length =
+      position-lines-length 18 (positionValues b) (2 ^ s .m) 0 (λ i _ h. position-line i (omega arith))
+
+-- the names, the line of the settings, the names, and the lines of the positions
+parts : (s : Settings) (b : Block) → tidyText s b
+    ≡ settingNames ++ (line (valuesOf s) ++ (positionNames ++ positionLines (positionValues b) (2 ^ s .m) 0))
+unfolding tidyText
+parts s b = simp append-assoc
+
+-- no tidy text is too long to be read
+pub tidy-length : (s : Settings) (b : Block) → blockNumber s b ≡ 0 → length (tidyText s b) ≤ longestText
+unfolding tidyText
+tidy-length s b none =
+    let lines = positionLines (positionValues b) (2 ^ s .m) 0 in
+    omega (
+      arith,
+      positions-le s b none,
+      settings-line s b none,
+      lines-length s b none,
+      length-append (settingNames ++ line (valuesOf s) ++ positionNames) lines,
+      length-append (settingNames ++ line (valuesOf s)) positionNames,
+      length-append settingNames (line (valuesOf s)),
+    )
+
+-- ---- reading it
+
+llr-same : (z : ℤ) → natAbs z ≤ outsideLlr → llrValue z ≡ z
+llr-same (pos n) h = let e : min n outsideLlr ≡ n = omega arith in ap pos e
+llr-same (negsuc n) h =
+    let e : min (suc n) outsideLlr ≡ suc n = omega arith in ap (λ (k : ℕ). negℤ (pos k)) e
+
+-- what a text means whose lines are read to its end, and whose block has no number
+read-whole : (t u : List ℕ) (s : Settings) (b : Block) → length t ≤ longestText → head t ≡ found s u
+    → between 1 largestM (s .m) ≡ true → readPositions (2 ^ s .m) 0 u ≡ found b [] → blockNumber s b ≡ 0
+    → meaning t ≡ block s b
+unfolding meaning
+read-whole t u s b short h m lines none = rw (le-leb (length t) longestText short, h, m, lines, none)
+
+-- the first three lines give the settings
+pub head-back : (s : Settings) (b : Block) → blockNumber s b ≡ 0
+    → head (tidyText s b) ≡ found s (positionLines (positionValues b) (2 ^ s .m) 0)
+head-back s b none =
+    let lines = positionLines (positionValues b) (2 ^ s .m) 0 in
+    let third = positionNames ++ lines in
+    let second = line (valuesOf s) ++ third in
+    ap head (parts s b)
+    ∙ head-found (settingNames ++ second) second third lines (valuesOf s) (literal-back settingNames second)
+    (line-back (valuesOf s) third (values-digits s b none)) (literal-back positionNames lines)
+
+module _ (s : Settings) (b : Block) (none : blockNumber s b ≡ 0) where
+  position-back : (p : ℕ) (u : List ℕ) → p < 2 ^ s .m → readPosition p (line (positionValues b p) ++ u)
+      ≡ found (record { frozen = getD (b .mask) p 0; llr = getD (b .llr) p (pos 0) }) u
+  position-back p u h =
+      let kept = mask-le s b none p h in
+      let mask-same : min (getD (b .mask) p 0) outsideMask ≡ getD (b .mask) p 0 = omega arith in
+      read-position-found p (positionValues b p) (line (positionValues b p) ++ u) u
+      (line-back (positionValues b p) u (position-digits s b none p h))
+      ∙ rw (
+        eq-eqb p p refl,
+        mask-same,
+        llr-same (getD (b .llr) p (pos 0)) (omega (arith, llr-le s b none p h)),
+      )
+
+  -- the lines of n positions from p on give their part of the block
+  positions-from : (n p : ℕ) → p + n ≤ 2 ^ s .m
+      → readPositions n p (positionLines (positionValues b) n p)
+      ≡ found (blockOf (take n (drop p (b .mask))) (take n (drop p (b .llr)))) []
+  unfolding readPositions positionLines
+  positions-from zero p h = refl
+  positions-from (suc n) p h =
+      let slices = facts s b none .slices in
+      rw (
+        position-back p (positionLines (positionValues b) n (suc p)) (omega arith),
+        positions-from n (suc p) (omega arith),
+        drop-cons (b .mask) p 0 (omega arith),
+        drop-cons (b .llr) p (pos 0) (omega arith),
+      )
+
+-- the lines of the positions give the first N elements of the block
+pub positions-back : (s : Settings) (b : Block) → blockNumber s b ≡ 0
+    → readPositions (2 ^ s .m) 0 (positionLines (positionValues b) (2 ^ s .m) 0) ≡ found (firstOf (2 ^ s .m) b) []
+positions-back s b none = positions-from s b none (2 ^ s .m) 0 (omega arith)
+
+-- what is written of settings and a block that the decoder accepts means these settings and this block; of a block that
+-- is longer than N, its first N elements
+pub read-written : (s : Settings) (b : Block) → blockNumber s b ≡ 0
+    → meaning (tidyText s b) ≡ block s (firstOf (2 ^ s .m) b)
+read-written s b none =
+    let a = facts s b none .settings in
+    read-whole (tidyText s b) (positionLines (positionValues b) (2 ^ s .m) 0) s (firstOf (2 ^ s .m) b)
+    (tidy-length s b none) (head-back s b none)
+    (rw (le-leb 1 (s .m) (a .m-some)) (le-leb (s .m) largestM (a .m-le)))
+    (positions-back s b none) (first-number s b ∙ none)
+
+-- ---- the meaning of a text, written
+
+-- a text's block has N elements and no more
+first-whole : (s : Settings) (b : Block) → Fit s b → firstOf (2 ^ s .m) b ≡ b
+first-whole s b fit =
+    let long = fit .long in
+    ap₂ blockOf (take-all (2 ^ s .m) (b .mask) (omega arith)) (take-all (2 ^ s .m) (b .llr) (omega arith))
+
+-- what is written of an accepted text's meaning has that meaning
+pub tidy-means : (t : List ℕ) {s : Settings} {b : Block} → meaning t ≡ block s b → meaning (tidyText s b) ≡ block s b
+tidy-means t {s} {b} e =
+    let fit : Fit s b = rw e at (meaning-fit t) in
+    read-written s b (fit .number) ∙ ap (block s) (first-whole s b fit)
+
+-- two accepted texts are written as the same bytes exactly where they mean the same
+pub written-alike : (t t′ : List ℕ) {s s′ : Settings} {b b′ : Block} → meaning t ≡ block s b → meaning t′ ≡ block s′ b′
+    → (tidyText s b ≡ tidyText s′ b′ → meaning t ≡ meaning t′) × (meaning t ≡ meaning t′ → tidyText s b ≡ tidyText s′ b′)
+written-alike t t′ e e′ =
+    (λ same. e ∙ sym (tidy-means t e) ∙ ap meaning same ∙ tidy-means t′ e′ ∙ sym e′, λ same. cc)
+
+-- what is written, read and written again, is the same bytes
+pub written-again : (t : List ℕ) {s s′ : Settings} {b b′ : Block} → meaning t ≡ block s b
+    → meaning (tidyText s b) ≡ block s′ b′ → tidyText s′ b′ ≡ tidyText s b
+written-again t e again = cc (tidy-means t e)
