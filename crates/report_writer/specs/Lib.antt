@@ -1,3 +1,4 @@
 pub mod Writer
 pub mod ReadBackLaws
 pub mod WriterLaws
+pub mod Cases

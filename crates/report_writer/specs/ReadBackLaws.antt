@@ -123,7 +123,6 @@ pub line-back : (zs : List ℤ) (s : List ℕ) → FourDigits zs → line (lengt
 unfolding line format.line
 line-back [] s h = refl
 line-back (z ∷ zs) s h =
-    let short = h .0 in
     rw (
       line-front z zs s,
       number-back z (behind zs ∷ (format.line zs ++ s)) (omega arith) (behind-no-digit zs),

@@ -52,8 +52,7 @@ use Rattle.settings.specs.SettingsLaws.{Accepted, accepted}
 first-long : {A : Type 0} (n : ℕ) (l : List A) → leb n (length (take n l)) ≡ leb n (length l)
 first-long zero l = leb·zero (length (take zero l)) ∙ sym (leb·zero (length l))
 first-long (suc n) [] = refl
-first-long (suc n) (a ∷ l) =
-    leb·suc-suc n (length (take n l)) ∙ first-long n l ∙ sym (leb·suc-suc n (length l))
+first-long (suc n) (a ∷ l) = leb·suc-suc n (length (take n l)) ∙ first-long n l ∙ sym (leb·suc-suc n (length l))
 
 first-mask : (n : ℕ) (mask : List ℕ) → maskAccepted n (take n mask) ≡ maskAccepted n mask
 first-mask n mask = every-same n _ _ (λ i h. ap isMaskByte (getD-take n mask i 0 h))
@@ -63,9 +62,9 @@ first-count k zero mask h = refl
 first-count k (suc n) mask h = rw (first-count k n mask (omega arith), getD-take k mask n 0 h)
 
 first-within : (n C : ℕ) (llr : List ℤ) → withinCeiling n C (take n llr) ≡ withinCeiling n C llr
-first-within n C llr =
-    every-same n _ _ (λ i h. ap (λ (z : ℤ). leb (natAbs z) C) (getD-take n llr i (pos 0) h))
+first-within n C llr = every-same n _ _ (λ i h. ap (λ (z : ℤ). leb (natAbs z) C) (getD-take n llr i (pos 0) h))
 
+-- the decoder's number is that of the first N elements
 pub first-number : (s : Settings) (b : Block) → blockNumber s (firstOf (2 ^ s .m) b) ≡ blockNumber s b
 first-number s b =
     let n = 2 ^ s .m in
@@ -77,6 +76,7 @@ first-number s b =
       first-within n (s .ceiling) (b .llr),
     )
 
+-- the text is that of the first N elements
 pub tidy-first : (s : Settings) (b : Block) → tidyText s (firstOf (2 ^ s .m) b) ≡ tidyText s b
 unfolding tidyText
 tidy-first s b =
@@ -233,7 +233,8 @@ tidy-means t {s} {b} e =
 
 -- two accepted texts are written as the same bytes exactly where they mean the same
 pub written-alike : (t t′ : List ℕ) {s s′ : Settings} {b b′ : Block} → meaning t ≡ block s b → meaning t′ ≡ block s′ b′
-    → (tidyText s b ≡ tidyText s′ b′ → meaning t ≡ meaning t′) × (meaning t ≡ meaning t′ → tidyText s b ≡ tidyText s′ b′)
+    → (tidyText s b ≡ tidyText s′ b′ → meaning t ≡ meaning t′) ×
+    (meaning t ≡ meaning t′ → tidyText s b ≡ tidyText s′ b′)
 written-alike t t′ e e′ =
     (λ same. e ∙ sym (tidy-means t e) ∙ ap meaning same ∙ tidy-means t′ e′ ∙ sym e′, λ same. cc)
 
