@@ -9,7 +9,7 @@ use lib.Dec.{leb, leb·zero, leb·suc-suc}
 use lib.IntN.{ℤ, pos, negsuc, negℤ, natAbs}
 use lib.ListN.{length, getD, drop, take, length-append}
 use lib.Pow.{pow-mono}
-use lib.Seq.{drop-cons, getD-take, take-all}
+use lib.Seq.{drop-cons, getD-take, take-all, length-take-le}
 use borrow.Author.Tests.{leb-true, eqb-true, le-leb, eq-eqb}
 use Rattle.calls.specs.Bounds.{largestM, largestCeiling, mostPositions}
 use Rattle.calls.specs.EveryLaws.{every-at, every-same}
@@ -36,9 +36,12 @@ use Rattle.report_input.specs.Input.{
   block,
   blockNumber,
   largestLengths,
+  heldIn,
+  meaningIn,
+  largestRoom,
   meaning,
 }
-use Rattle.report_input.specs.InputLaws.{read-position-found, head-found, Fit, meaning-fit}
+use Rattle.report_input.specs.InputLaws.{read-position-found, head-found, held-whole, Fit, meaning-fit}
 use Rattle.report_input.specs.Private.{firstOf}
 use Rattle.report_writer.specs.ReadBackLaws.{line-back, literal-back}
 use Rattle.report_writer.specs.Writer.{valuesOf, positionValues, tidyText}
@@ -157,9 +160,11 @@ llr-same (negsuc n) h =
 -- what a text means whose lines are read to its end, and whose block has no number
 read-whole : (t u : List ℕ) (s : Settings) (b : Block) → length t ≤ longestText → head t ≡ found s u
     → between 1 largestM (s .m) ≡ true → readPositions (2 ^ s .m) 0 u ≡ found b [] → blockNumber s b ≡ 0
-    → meaning t ≡ block s b
-unfolding meaning
-read-whole t u s b short h m lines none = rw (le-leb (length t) longestText short, h, m, lines, none)
+    → heldIn largestRoom b ≡ b → meaning t ≡ block s b
+unfolding meaning meaningIn
+read-whole t u s b short h m lines none held =
+    let number : blockNumber s (heldIn largestRoom b) ≡ 0 = ap (blockNumber s) held ∙ none in
+    rw (le-leb (length t) longestText short, h, m, lines, number)
 
 -- the first three lines give the settings
 pub head-back : (s : Settings) (b : Block) → blockNumber s b ≡ 0
@@ -206,6 +211,20 @@ pub positions-back : (s : Settings) (b : Block) → blockNumber s b ≡ 0
     → readPositions (2 ^ s .m) 0 (positionLines (positionValues b) (2 ^ s .m) 0) ≡ found (firstOf (2 ^ s .m) b) []
 positions-back s b none = positions-from s b none (2 ^ s .m) 0 (omega arith)
 
+-- which have room in the longest slices that are needed
+first-held : (s : Settings) (b : Block) → blockNumber s b ≡ 0
+    → heldIn largestRoom (firstOf (2 ^ s .m) b) ≡ firstOf (2 ^ s .m) b
+first-held s b none =
+    let n = 2 ^ s .m in
+    let slices = facts s b none .slices in
+    let small = positions-le s b none in
+    held-whole largestRoom n (firstOf n b)
+    (record {
+      mask-long = length-take-le n (b .mask) (slices .mask-long);
+      llr-long = length-take-le n (b .llr) (slices .llr-long);
+    })
+    (record { mask-room = small; llr-room = small })
+
 -- what is written of settings and a block that the decoder accepts means these settings and this block; of a block that
 -- is longer than N, its first N elements
 pub read-written : (s : Settings) (b : Block) → blockNumber s b ≡ 0
@@ -215,7 +234,7 @@ read-written s b none =
     read-whole (tidyText s b) (positionLines (positionValues b) (2 ^ s .m) 0) s (firstOf (2 ^ s .m) b)
     (tidy-length s b none) (head-back s b none)
     (rw (le-leb 1 (s .m) (a .m-some)) (le-leb (s .m) largestM (a .m-le)))
-    (positions-back s b none) (first-number s b ∙ none)
+    (positions-back s b none) (first-number s b ∙ none) (first-held s b none)
 
 -- ---- the meaning of a text, written
 
