@@ -23,9 +23,9 @@ pub fn information_positions(mask: &[i64]) -> Result<Vec<usize>, Refusal> {
     Ok(positions)
 }
 
-/// Bytes as wide numbers.
-pub fn widen(bytes: &[u8]) -> Vec<i64> {
-    bytes.iter().map(|&b| i64::from(b)).collect()
+/// Bytes or 16-bit values as wide numbers.
+pub fn widen<T: Copy + Into<i64>>(values: &[T]) -> Vec<i64> {
+    values.iter().map(|&v| v.into()).collect()
 }
 
 /// The coded bits of u, straight from the definition: coded bit i is the

@@ -40,6 +40,31 @@ pub struct Decoded {
 }
 
 impl Settings {
+    /// The settings from a list in the order of their names.
+    pub fn from_list(list: [i64; 6]) -> Self {
+        let [m, ceiling, scale, limit, criterion, operand] = list;
+        Settings {
+            m,
+            ceiling,
+            scale,
+            limit,
+            criterion,
+            operand,
+        }
+    }
+
+    /// The settings as a list in the order of their names.
+    pub fn list(&self) -> [i64; 6] {
+        [
+            self.m,
+            self.ceiling,
+            self.scale,
+            self.limit,
+            self.criterion,
+            self.operand,
+        ]
+    }
+
     /// Refusals 1 to 6, else N.
     pub fn check(&self) -> Result<usize, Refusal> {
         let n = block_len(self.m)?;
@@ -57,12 +82,18 @@ impl Settings {
     }
 }
 
-/// Tests a mask and LLRs of exactly N values (refusals 8 to 10) under settings
-/// already tested, then decodes them.
-pub fn decode_wide(settings: &Settings, mask: &[i64], llr: &[i64]) -> Result<Decoded, Refusal> {
+/// Tests a mask and LLRs of exactly N values under settings already tested.
+/// Refusals 8 to 10, else the information positions.
+pub fn check_block(settings: &Settings, mask: &[i64], llr: &[i64]) -> Result<Vec<usize>, Refusal> {
     let information = information_positions(mask)?;
     let fits = |v: &i64| v.abs() <= settings.ceiling;
     require(llr.iter().all(fits), Refusal::Llr)?;
+    Ok(information)
+}
+
+/// Tests as `check_block` does, then decodes.
+pub fn decode_wide(settings: &Settings, mask: &[i64], llr: &[i64]) -> Result<Decoded, Refusal> {
+    let information = check_block(settings, mask, llr)?;
     let m = settings.m as usize;
     let mut messages = Messages::start(m, settings.ceiling, settings.scale, mask, llr);
     let mut history = Vec::new();
@@ -97,8 +128,7 @@ pub fn decode(
     require_lengths(n, &outputs)?;
     require_lengths(n, &marks)?;
     require_lengths(2 * (settings.m as usize + 1) * n, &[lent.work.len()])?;
-    let llr: Vec<i64> = llr[..n].iter().map(|&v| i64::from(v)).collect();
-    let decoded = decode_wide(settings, &widen(&mask[..n]), &llr)?;
+    let decoded = decode_wide(settings, &widen(&mask[..n]), &widen(&llr[..n]))?;
     write_out(&decoded, lent);
     Ok(decoded.ending)
 }
@@ -118,7 +148,7 @@ fn write_out(decoded: &Decoded, lent: &mut Lent) {
 }
 
 /// Writes the values to the first elements of the slice.
-fn put(target: &mut [i16], values: &[i64]) {
+pub fn put(target: &mut [i16], values: &[i64]) {
     for (element, &value) in target.iter_mut().zip(values) {
         *element = i16::try_from(value).expect("values lie within the ceiling");
     }

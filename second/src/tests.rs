@@ -1,5 +1,4 @@
-//! The blocks worked by hand in the paper, its worked text, and the orders of
-//! its refusals.
+//! The blocks worked by hand in the paper, and the orders of its refusals.
 
 use crate::*;
 
@@ -210,46 +209,4 @@ fn tally_bounds() {
     assert!(!tally(2, 1, 1, 0, 1));
     assert!(!tally(2, 1, 1, 0, 401));
     assert!(!tally(1, u32::MAX, 2, 0, 1));
-}
-
-const WORKED: &str = "m ceiling scale limit criterion operand\n1 31 16 10 1 0\n\
-                      position frozen llr\n0 1 5\n1 0 -3\n";
-
-fn report_of(text: &str) -> String {
-    String::from_utf8(report(text.as_bytes())).unwrap()
-}
-
-#[test]
-fn worked_text() {
-    let expected = "iterations reason\n1 1\nposition soft mark coded codedmark\n\
-                    0 28 0 2 0\n1 2 0 2 0\n";
-    assert_eq!(report_of(WORKED), expected);
-}
-
-#[test]
-fn text_refusals() {
-    let changed = |from, to| report_of(&WORKED.replacen(from, to, 1));
-    assert_eq!(changed("1 31", "11 0"), "refused\n1\n");
-    assert_eq!(changed("1 31", "1  0031").len(), report_of(WORKED).len());
-    assert_eq!(changed("1 31", "1\t31"), "refused\n14\n");
-    assert_eq!(changed("1 31", "1 +31"), "refused\n14\n");
-    assert_eq!(changed("1 31", "1 0000031"), "refused\n14\n");
-    assert_eq!(changed("1 31", "1 -"), "refused\n14\n");
-    assert_eq!(changed("0 1 5", "-0 1 5").len(), report_of(WORKED).len());
-    assert_eq!(changed("0 1 5", "0 256 5"), "refused\n8\n");
-    assert_eq!(changed("1 0 -3", "1 1 -999999"), "refused\n9\n");
-    assert_eq!(changed("1 0 -3", "1 0 -65539"), "refused\n10\n");
-    assert_eq!(changed("-3\n", "-3"), "refused\n14\n");
-    assert_eq!(changed("-3\n", "-3\n\n"), "refused\n14\n");
-    assert_eq!(report_of(""), "refused\n14\n");
-}
-
-#[test]
-fn text_length() {
-    let padded = |bytes: usize| {
-        let spaces = " ".repeat(bytes - WORKED.len());
-        report_of(&WORKED.replacen("0 -3", &format!("0 {spaces}-3"), 1))
-    };
-    assert_eq!(padded(32_768), report_of(WORKED));
-    assert_eq!(padded(32_769), "refused\n14\n");
 }

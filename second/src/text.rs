@@ -1,7 +1,7 @@
-//! The report: a text with one block in, a text with its outcome out.
+//! The text of a block: its format and its reader.
 
-use crate::code::block_len;
-use crate::decode::{decode_wide, Decoded, Settings};
+use crate::code::{block_len, require_lengths};
+use crate::decode::{check_block, put, Settings};
 use crate::refusal::{require, Refusal};
 
 /// The first line of names.
@@ -11,24 +11,55 @@ pub const POSITION_NAMES: &[u8] = b"position frozen llr";
 /// More bytes than this are malformed.
 pub const MOST_BYTES: usize = 32_768;
 
-/// The report program as a function from its input to its output.
-pub fn report(input: &[u8]) -> Vec<u8> {
-    let text = match outcome(input) {
-        Ok(decoded) => print(&decoded),
-        Err(refusal) => format!("refused\n{}\n", refusal.number()),
-    };
-    text.into_bytes()
+/// What a text says: settings, and one mask value and one LLR for each
+/// position, as wide as the text may hold them.
+#[derive(Clone, Debug, PartialEq, Eq)]
+pub struct Block {
+    pub settings: Settings,
+    pub mask: Vec<i64>,
+    pub llr: Vec<i64>,
 }
 
-/// Reads and decodes: 14 for the size and the first three lines, then 1, then
-/// 14 for the rest, then the other numbers.
-fn outcome(input: &[u8]) -> Result<Decoded, Refusal> {
-    require(input.len() <= MOST_BYTES, Refusal::Text)?;
-    let (settings, rest) = read_head(input)?;
+/// Reads a text into lent slices. Refusals 14, 1, 14 and 2 to 6 as `read_wide`
+/// and `Settings::check` have them, then 7, 8, 9, 10; a refusal writes nothing.
+pub fn read(text: &[u8], mask: &mut [u8], llr: &mut [i16]) -> Result<Settings, Refusal> {
+    let block = read_wide(text)?;
+    let settings = block.settings;
+    let n = settings.check()?;
+    require_lengths(n, &[mask.len(), llr.len()])?;
+    check_block(&settings, &block.mask, &block.llr)?;
+    for (byte, &value) in mask.iter_mut().zip(&block.mask) {
+        *byte = value as u8;
+    }
+    put(llr, &block.llr);
+    Ok(settings)
+}
+
+/// What a text says, for the functions that need no lent slices: the tests of
+/// `read` without 7.
+pub fn accepted(text: &[u8]) -> Result<Block, Refusal> {
+    let block = read_wide(text)?;
+    block.settings.check()?;
+    check_block(&block.settings, &block.mask, &block.llr)?;
+    Ok(block)
+}
+
+/// 14 for the size and the first three lines, then 1, then 14 for the rest.
+fn read_wide(text: &[u8]) -> Result<Block, Refusal> {
+    require(text.len() <= MOST_BYTES, Refusal::Text)?;
+    let (settings, rest) = read_head(text)?;
     let n = block_len(settings.m)?;
     let (mask, llr) = read_positions(n, rest)?;
-    settings.check()?;
-    decode_wide(&settings, &mask, &llr)
+    Ok(Block {
+        settings,
+        mask,
+        llr,
+    })
+}
+
+/// The text that stands for a refusal.
+pub fn refused(refusal: Refusal) -> Vec<u8> {
+    format!("refused\n{}\n", refusal.number()).into_bytes()
 }
 
 /// The settings of the first three lines, and the bytes after them.
@@ -36,17 +67,9 @@ fn read_head(input: &[u8]) -> Result<(Settings, &[u8]), Refusal> {
     let (names, rest) = take_line(input)?;
     require(names == SETTING_NAMES, Refusal::Text)?;
     let (line, rest) = take_line(rest)?;
-    let [m, ceiling, scale, limit, criterion, operand] = read_values(line)?;
+    let settings = Settings::from_list(read_values(line)?);
     let (names, rest) = take_line(rest)?;
     require(names == POSITION_NAMES, Refusal::Text)?;
-    let settings = Settings {
-        m,
-        ceiling,
-        scale,
-        limit,
-        criterion,
-        operand,
-    };
     Ok((settings, rest))
 }
 
@@ -93,21 +116,4 @@ fn read_value(word: &[u8]) -> Result<i64, Refusal> {
         .iter()
         .fold(0, |value, digit| 10 * value + i64::from(digit - b'0'));
     Ok(sign * size)
-}
-
-/// The output text of a decoded block.
-fn print(decoded: &Decoded) -> String {
-    let ending = decoded.ending;
-    let mut text = format!(
-        "iterations reason\n{} {}\nposition soft mark coded codedmark\n",
-        ending.iterations, ending.reason
-    );
-    let outputs = &decoded.outputs;
-    for i in 0..outputs.soft.len() {
-        text += &format!(
-            "{i} {} {} {} {}\n",
-            outputs.soft[i], outputs.mark[i], outputs.coded_soft[i], outputs.coded_mark[i]
-        );
-    }
-    text
 }
