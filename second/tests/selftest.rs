@@ -23,30 +23,59 @@ const FAULTS: &[&str] = &[
     "fence",
     "tally_wraps",
     "tally_full",
+    "read_behind",
+    "settings_late",
+    "mask_late",
+    "read_clears",
+    "read_refusal_writes",
+    "text_early",
+    "short_by_one",
+    "exact_refused",
+    "text_clears",
+    "written_early",
+    "setting_signed",
+    "llr_size_wraps",
+    "leading_zero",
+    "minus_zero",
+    "two_spaces",
+    "name_left_out",
+    "no_line_end",
+    "report_room",
+    "report_number",
 ];
 
-fn exit_code(fault: &str, report: &str) -> Option<i32> {
+const REPORT: &str = env!("CARGO_BIN_EXE_report");
+const TIDY: &str = env!("CARGO_BIN_EXE_tidy");
+
+fn exit_code(fault: &str, report: &str, tidy: &str) -> Option<i32> {
     let mut command = Command::new(env!("CARGO_BIN_EXE_compare"));
     command.env("VEDROGNE_WRONG", fault);
-    let output = command.args(["7", "3000", report]).output();
+    let output = command.args(["7", "3000", report, tidy]).output();
     output.expect("compare runs").status.code()
 }
 
 #[test]
 fn no_fault_no_difference() {
-    assert_eq!(exit_code("", env!("CARGO_BIN_EXE_report")), Some(0));
+    assert_eq!(exit_code("", REPORT, TIDY), Some(0));
 }
 
 #[test]
 fn every_fault_is_found() {
     for fault in FAULTS {
-        let code = exit_code(fault, env!("CARGO_BIN_EXE_report"));
-        assert_eq!(code, Some(1), "{fault}");
+        assert_eq!(exit_code(fault, REPORT, TIDY), Some(1), "{fault}");
     }
 }
 
 #[test]
 fn a_wrong_report_is_found() {
-    assert_eq!(exit_code("", "/bin/cat"), Some(1));
-    assert_eq!(exit_code("", "/bin/true"), Some(1));
+    for program in ["/bin/cat", "/bin/true", TIDY] {
+        assert_eq!(exit_code("", program, TIDY), Some(1), "{program}");
+    }
+}
+
+#[test]
+fn a_wrong_tidy_text_is_found() {
+    for program in ["/bin/cat", "/bin/true", REPORT] {
+        assert_eq!(exit_code("", REPORT, program), Some(1), "{program}");
+    }
 }

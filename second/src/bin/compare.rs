@@ -1,12 +1,13 @@
-//! Compares the library linked under the C names, and a report program, with
-//! the second library, on random calls.
+//! Compares the library linked under the C names, a report program and a tidy
+//! program with the second library, on random calls.
 //!
 //! ```text
-//! compare SEED COUNT [REPORT]          comparisons 0 to COUNT-1
-//! compare --one SEED INDEX [REPORT]    that comparison alone, its calls printed
-//! compare --loud SEED COUNT [REPORT]   tells each index first, to find a crash
+//! compare SEED COUNT [REPORT [TIDY]]          comparisons 0 to COUNT-1
+//! compare --one SEED INDEX [REPORT [TIDY]]    that comparison alone, its calls printed
+//! compare --loud SEED COUNT [REPORT [TIDY]]   tells each index first, to find a crash
 //! ```
 //!
+//! Without a program its comparisons are left out.
 //! A seed and a count fix every call. A difference is printed with the whole
 //! call, and the program exits with 1. It is built with the environment
 //! variable VEDROGNE_LIB naming the archive, or with the feature `selftest`.
@@ -34,6 +35,8 @@ mod judge;
 mod memory;
 #[path = "compare/plan.rs"]
 mod plan;
+#[path = "compare/programs.rs"]
+mod programs;
 #[path = "compare/property.rs"]
 mod property;
 #[path = "compare/rng.rs"]
@@ -43,14 +46,24 @@ mod runs;
 #[cfg(feature = "selftest")]
 #[path = "compare/selftest.rs"]
 mod selftest;
+#[cfg(feature = "selftest")]
+#[path = "compare/selftest_texts.rs"]
+mod selftest_texts;
 #[path = "compare/show.rs"]
 mod show;
+#[path = "compare/spellings.rs"]
+mod spellings;
 #[path = "compare/tallies.rs"]
 mod tallies;
+#[path = "compare/text_calls.rs"]
+mod text_calls;
+#[path = "compare/text_draws.rs"]
+mod text_draws;
 #[path = "compare/texts.rs"]
 mod texts;
 
 use judge::Judge;
+use programs::Programs;
 use std::ops::Range;
 use std::process::ExitCode;
 
@@ -59,7 +72,7 @@ struct Request {
     loud: bool,
     seed: u64,
     indices: Range<u64>,
-    report: Option<String>,
+    programs: Programs,
 }
 
 fn read_request() -> Option<Request> {
@@ -69,7 +82,7 @@ fn read_request() -> Option<Request> {
     if one || loud {
         words.remove(0);
     }
-    if !(2..=3).contains(&words.len()) {
+    if !(2..=4).contains(&words.len()) {
         return None;
     }
     let seed = words[0].parse().ok()?;
@@ -79,23 +92,26 @@ fn read_request() -> Option<Request> {
     } else {
         0..number
     };
-    let report = words.get(2).cloned();
+    let programs = Programs {
+        report: words.get(2).cloned(),
+        tidy: words.get(3).cloned(),
+    };
     Some(Request {
         one,
         loud,
         seed,
         indices,
-        report,
+        programs,
     })
 }
 
 fn main() -> ExitCode {
     let Some(request) = read_request() else {
-        eprintln!("usage: compare [--loud] SEED COUNT [REPORT]");
-        eprintln!("       compare --one SEED INDEX [REPORT]");
+        eprintln!("usage: compare [--loud] SEED COUNT [REPORT [TIDY]]");
+        eprintln!("       compare --one SEED INDEX [REPORT [TIDY]]");
         return ExitCode::from(2);
     };
-    let (seed, report) = (request.seed, request.report.as_deref());
+    let (seed, programs) = (request.seed, &request.programs);
     println!("seed {seed}, comparisons {:?}", request.indices);
     let mut judge = Judge::default();
     judge.show = request.one;
@@ -103,10 +119,13 @@ fn main() -> ExitCode {
         if request.loud {
             eprintln!("comparison {index}");
         }
-        if let Err(difference) = comparing::compare_one(seed, index, report, &mut judge) {
-            let report = report.unwrap_or("");
+        if let Err(difference) = comparing::compare_one(seed, index, programs, &mut judge) {
+            let given = [&programs.report, &programs.tidy].map(|p| p.as_deref().unwrap_or(""));
             println!("DIFFERENCE in comparison {index} of seed {seed}");
-            println!("again with: compare --one {seed} {index} {report}");
+            println!(
+                "again with: compare --one {seed} {index} {}",
+                given.join(" ")
+            );
             println!("{}", difference.0);
             return ExitCode::from(1);
         }

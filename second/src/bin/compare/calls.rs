@@ -244,16 +244,9 @@ impl DecodeCall {
 }
 
 /// The settings from a slice of at least six numbers.
-fn settings_of(numbers: &[u32]) -> Option<Settings> {
-    let &[m, ceiling, scale, limit, criterion, operand] = numbers.first_chunk::<6>()?;
-    Some(Settings {
-        m: i64::from(m),
-        ceiling: i64::from(ceiling),
-        scale: i64::from(scale),
-        limit: i64::from(limit),
-        criterion: i64::from(criterion),
-        operand: i64::from(operand),
-    })
+pub fn settings_of(numbers: &[u32]) -> Option<Settings> {
+    let list = numbers.first_chunk::<6>()?;
+    Some(Settings::from_list(list.map(i64::from)))
 }
 
 /// The tally from a slice of at least five numbers.

@@ -3,19 +3,21 @@
 use crate::generate::*;
 use crate::judge::{Difference, Judge};
 use crate::plan::draw_m;
+use crate::programs::{check_report, check_tidy, Programs};
 use crate::rng::Rng;
-use crate::{property, runs, tallies, texts};
+use crate::text_draws::{draw_read, draw_report, draw_write};
+use crate::{property, runs, spellings, tallies};
 
 /// Makes comparison number `index` under the seed.
 pub fn compare_one(
     seed: u64,
     index: u64,
-    report: Option<&str>,
+    programs: &Programs,
     judge: &mut Judge,
 ) -> Result<(), Difference> {
     let mut rng = Rng::for_comparison(seed, index);
     let rng = &mut rng;
-    match rng.below(100) {
+    match rng.below(130) {
         0..=11 => judge.check(&draw_encode(rng)).map(|_| ()),
         12..=19 => judge.check(&draw_read_out(rng)).map(|_| ()),
         20..=41 => judge.check(&draw_front(rng)).map(|_| ()),
@@ -23,13 +25,12 @@ pub fn compare_one(
         65..=75 => check_decode(rng, judge, true),
         76..=81 => property::check(rng, judge),
         82..=84 => runs::check(rng, judge),
-        _ => match report {
-            Some(program) => texts::check(rng, judge, program),
-            None => {
-                judge.count_event("report: left out, no program given");
-                Ok(())
-            }
-        },
+        85..=94 => judge.check(&draw_read(rng)).map(|_| ()),
+        95..=104 => judge.check(&draw_write(rng)).map(|_| ()),
+        105..=107 => judge.check(&draw_report(rng)).map(|_| ()),
+        108..=109 => spellings::check(rng, judge),
+        110..=121 => check_report(rng, judge, programs.report.as_deref()),
+        _ => check_tidy(rng, judge, programs.tidy.as_deref()),
     }
 }
 

@@ -1,6 +1,7 @@
 //! The C boundary: the library under test, called through its C names.
 
 use crate::calls::{DecodeCall, EncodeCall, FrontCall, ReadOutCall};
+use crate::text_calls::{ReadCall, ReportCall, WriteCall};
 use second::Channel;
 
 extern "C" {
@@ -95,6 +96,37 @@ extern "C" {
         work_len: usize,
         iterations: *mut u32,
         reason: *mut u32,
+    ) -> u32;
+
+    fn vedrogne_read(
+        text: *const u8,
+        text_len: usize,
+        settings: *mut u32,
+        settings_len: usize,
+        mask: *mut u8,
+        mask_len: usize,
+        llr: *mut i16,
+        llr_len: usize,
+    ) -> u32;
+
+    fn vedrogne_write(
+        settings: *const u32,
+        settings_len: usize,
+        mask: *const u8,
+        mask_len: usize,
+        llr: *const i16,
+        llr_len: usize,
+        text: *mut u8,
+        text_len: usize,
+        written: *mut usize,
+    ) -> u32;
+
+    fn vedrogne_report(
+        text: *const u8,
+        text_len: usize,
+        out: *mut u8,
+        out_len: usize,
+        written: *mut usize,
     ) -> u32;
 }
 
@@ -209,6 +241,52 @@ fn decode_tallied(tally: *mut u32, tally_len: usize, call: &mut DecodeCall) -> u
             call.work.len(),
             call.iterations.pointer(),
             call.reason.pointer(),
+        )
+    }
+}
+
+pub fn read(call: &mut ReadCall) -> u32 {
+    // Safety: as in `encode`.
+    unsafe {
+        vedrogne_read(
+            call.text.pointer(),
+            call.text.len(),
+            call.settings.pointer(),
+            call.settings.len(),
+            call.mask.pointer(),
+            call.mask.len(),
+            call.llr.pointer(),
+            call.llr.len(),
+        )
+    }
+}
+
+pub fn write(call: &mut WriteCall) -> u32 {
+    // Safety: as in `encode`; `written` points to one element.
+    unsafe {
+        vedrogne_write(
+            call.settings.pointer(),
+            call.settings.len(),
+            call.mask.pointer(),
+            call.mask.len(),
+            call.llr.pointer(),
+            call.llr.len(),
+            call.text.pointer(),
+            call.text.len(),
+            call.written.pointer(),
+        )
+    }
+}
+
+pub fn report(call: &mut ReportCall) -> u32 {
+    // Safety: as in `write`.
+    unsafe {
+        vedrogne_report(
+            call.text.pointer(),
+            call.text.len(),
+            call.out.pointer(),
+            call.out.len(),
+            call.written.pointer(),
         )
     }
 }

@@ -43,6 +43,16 @@ impl Element for u32 {
     }
 }
 
+impl Element for usize {
+    const C_TYPE: &'static str = "size_t";
+    fn shown(self) -> i64 {
+        self as i64
+    }
+    fn noise(rng: &mut Rng) -> Self {
+        rng.next() as usize
+    }
+}
+
 impl Element for f32 {
     const C_TYPE: &'static str = "float";
     fn shown(self) -> i64 {
@@ -73,6 +83,14 @@ impl<T: Element> Fenced<T> {
         let filled = contents.len().min(len);
         all[FENCE..FENCE + filled].copy_from_slice(&contents[..filled]);
         Fenced { all, len }
+    }
+
+    /// The first `len` of the contents; they go on in the fence behind.
+    pub fn cut(rng: &mut Rng, contents: &[T], len: usize) -> Self {
+        let mut cut = Fenced::new(rng, contents, len);
+        let end = contents.len().min(len + FENCE);
+        cut.all[FENCE + len..FENCE + end].copy_from_slice(&contents[len..end]);
+        cut
     }
 
     /// A slice with noise in it, to be written.

@@ -88,22 +88,9 @@ pub fn good_plan(rng: &mut Rng, m: i64) -> Plan {
     plan
 }
 
-/// The settings as the second library takes them.
-fn settings_of(plan: &Plan) -> Settings {
-    let [m, ceiling, scale, limit, criterion, operand] = plan.settings;
-    Settings {
-        m,
-        ceiling,
-        scale,
-        limit,
-        criterion,
-        operand,
-    }
-}
-
 /// Decodes a good plan.
 fn decoded(plan: &Plan) -> Option<Decoded> {
-    decode_wide(&settings_of(plan), &plan.mask, &plan.llr).ok()
+    decode_wide(&Settings::from_list(plan.settings), &plan.mask, &plan.llr).ok()
 }
 
 /// Moves an operand of criterion 2 to where it just holds after some

@@ -7,7 +7,7 @@ use std::slice::{from_raw_parts, from_raw_parts_mut};
 use std::sync::OnceLock;
 
 /// Whether the named fault is asked for.
-fn wrong(name: &str) -> bool {
+pub fn wrong(name: &str) -> bool {
     static WRONG: OnceLock<String> = OnceLock::new();
     WRONG.get_or_init(|| std::env::var("VEDROGNE_WRONG").unwrap_or_default()) == name
 }
@@ -163,11 +163,11 @@ unsafe extern "C" fn vedrogne_front_erasing(
 /// A pointer with the length beside it.
 type Raw<T> = (*mut T, usize);
 
-unsafe fn slice<'a, T>(raw: (*const T, usize)) -> &'a [T] {
+pub unsafe fn slice<'a, T>(raw: (*const T, usize)) -> &'a [T] {
     from_raw_parts(raw.0, raw.1)
 }
 
-unsafe fn slice_mut<'a, T>(raw: Raw<T>) -> &'a mut [T] {
+pub unsafe fn slice_mut<'a, T>(raw: Raw<T>) -> &'a mut [T] {
     from_raw_parts_mut(raw.0, raw.1)
 }
 
@@ -184,15 +184,8 @@ struct Decoding<'a> {
 impl Decoding<'_> {
     fn settings(&self) -> Option<Settings> {
         let cut = |v: u32| if wrong("cut_settings") { v & 0xffff } else { v };
-        let v = self.settings.first_chunk::<6>()?.map(|v| i64::from(cut(v)));
-        Some(Settings {
-            m: v[0],
-            ceiling: v[1],
-            scale: v[2],
-            limit: v[3],
-            criterion: v[4],
-            operand: v[5],
-        })
+        let list = self.settings.first_chunk::<6>()?;
+        Some(Settings::from_list(list.map(|v| i64::from(cut(v)))))
     }
 
     /// Decodes, with the faults that are asked for.

@@ -1,13 +1,10 @@
-//! The report program on good texts and damaged ones.
+//! Texts of blocks, good ones and damaged ones.
 
 use crate::damage::damage;
 use crate::generate::fault_count;
-use crate::judge::{Difference, Judge};
 use crate::plan::{draw_m, good_plan, Plan, CEILING};
 use crate::rng::Rng;
 use second::text::{MOST_BYTES, POSITION_NAMES, SETTING_NAMES};
-use std::io::Write;
-use std::process::{Command, Output, Stdio};
 
 /// Sizes of long texts, most of them at the bound.
 const LONG: [usize; 6] = [
@@ -19,71 +16,14 @@ const LONG: [usize; 6] = [
     100_000,
 ];
 
-/// Draws a text, hands it to the program and compares what it printed.
-pub fn check(rng: &mut Rng, judge: &mut Judge, program: &str) -> Result<(), Difference> {
-    let text = draw_text(rng);
-    if judge.show {
-        println!("printf '{}' | {program}", escaped(&text));
-    }
-    let expected = second::report(&text);
-    let output = match printed(program, &text) {
-        Ok(output) => output,
-        Err(error) => return Err(Difference(format!("{program} cannot be run: {error}"))),
-    };
-    if output.stdout != expected || output.status.code().is_none() {
-        return Err(failure(program, &text, &output, &expected));
-    }
-    judge.count_answer("report", answer_of(&expected));
-    if let Some(code) = output.status.code() {
-        judge.count_event(&format!("report: exit code {code}"));
-    }
-    if (MOST_BYTES - 1..=MOST_BYTES + 1).contains(&text.len()) {
-        judge.count_event(&format!("report: texts of {} bytes", text.len()));
-    }
-    Ok(())
+/// A text for one call.
+pub struct Drawn {
+    pub text: Vec<u8>,
+    /// The number of positions that it was drawn with.
+    pub n: usize,
 }
 
-fn printed(program: &str, text: &[u8]) -> std::io::Result<Output> {
-    let mut child = Command::new(program)
-        .stdin(Stdio::piped())
-        .stdout(Stdio::piped())
-        .stderr(Stdio::piped())
-        .spawn()?;
-    if let Some(mut stdin) = child.stdin.take() {
-        // A program may stop reading a text that is too long.
-        let _ = stdin.write_all(text);
-    }
-    child.wait_with_output()
-}
-
-/// The number in a refusal's text, 0 for an outcome.
-fn answer_of(output: &[u8]) -> u32 {
-    let text = String::from_utf8_lossy(output);
-    let number = text.strip_prefix("refused\n").map(str::trim_end);
-    number.and_then(|n| n.parse().ok()).unwrap_or(0)
-}
-
-fn failure(program: &str, text: &[u8], output: &Output, expected: &[u8]) -> Difference {
-    Difference(format!(
-        "{program} differs ({}) in\nprintf '{}' | {program}\nprinted: {}\nsecond library: {}\n",
-        output.status,
-        escaped(text),
-        String::from_utf8_lossy(&output.stdout),
-        String::from_utf8_lossy(expected)
-    ))
-}
-
-/// The bytes in a form that the shell's printf takes.
-fn escaped(text: &[u8]) -> String {
-    let one = |&byte: &u8| match byte {
-        b' ' | b'-' | b'a'..=b'z' | b'0'..=b'9' => char::from(byte).to_string(),
-        b'\n' => "\\n".to_string(),
-        _ => format!("\\{byte:03o}"),
-    };
-    text.iter().map(one).collect()
-}
-
-fn draw_text(rng: &mut Rng) -> Vec<u8> {
+pub fn draw_text(rng: &mut Rng) -> Drawn {
     let m = draw_m(rng);
     let mut plan = good_plan(rng, m);
     // Good; wrong numbers; damaged; both.
@@ -105,7 +45,15 @@ fn draw_text(rng: &mut Rng) -> Vec<u8> {
     for _ in 0..damages {
         text = damage(rng, text);
     }
-    text
+    Drawn {
+        text,
+        n: plan.mask.len(),
+    }
+}
+
+/// The text of a plan in a random spelling.
+pub fn spelled(rng: &mut Rng, plan: &Plan) -> Vec<u8> {
+    write_lines(rng, plan).concat()
 }
 
 /// Puts one number out of its range, within what six digits can hold.

@@ -1,6 +1,7 @@
 //! Stands in for the C boundary where no library is linked.
 
 use crate::calls::{DecodeCall, EncodeCall, FrontCall, ReadOutCall};
+use crate::text_calls::{ReadCall, ReportCall, WriteCall};
 
 fn unlinked() -> ! {
     eprintln!("compare was built without VEDROGNE_LIB: there is nothing to compare with");
@@ -20,5 +21,17 @@ pub fn front(_: &mut FrontCall) -> u32 {
 }
 
 pub fn decode(_: &mut DecodeCall) -> u32 {
+    unlinked()
+}
+
+pub fn read(_: &mut ReadCall) -> u32 {
+    unlinked()
+}
+
+pub fn write(_: &mut WriteCall) -> u32 {
+    unlinked()
+}
+
+pub fn report(_: &mut ReportCall) -> u32 {
     unlinked()
 }
