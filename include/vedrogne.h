@@ -1,5 +1,5 @@
 /*
- * Vedrogne: polar coder, channel front and belief-propagation decoder.
+ * Vedrogne: polar coder, channel front, belief-propagation decoder, and the texts of blocks and of their reports.
  *
  * Link with -Ltarget/staticlib -lvedrogne; `rt staticlib vedrogne` writes the archive, target/staticlib/libvedrogne.a.
  * It is for Linux on x86-64 and needs the C library alone. No function allocates memory, keeps a state between calls,
@@ -10,7 +10,8 @@
  * (1,0) and (1,1), without bit reversal. A mask from a usual construction has to be bit-reversed for this decoder.
  *
  * Lists are pointers with a length in elements, which may be longer than needed: what is behind is neither read nor
- * written. (A message byte or a sample there refuses nothing.) The caller sees to it that
+ * written. (A message byte or a sample there refuses nothing.) A text to be read is the exception: all of it counts, to
+ * its last byte. The caller sees to it that
  *   - every pointer is aligned for its type, is not NULL, not even with a length of 0, and points to as many elements
  *     as its length says;
  *   - each of these elements has been given some value, also where a function only writes it: clear or set such memory
@@ -22,25 +23,27 @@
  * Every function returns 0, or the number of a refusal. After a refusal no memory has changed, save a tally that counts
  * the refusal. Where several numbers apply the lowest is returned, save where a place is named.
  *
- *    number  refused because                                                          returned by
- *     1      m is outside 1..10                                                       all
- *     2      the ceiling C is outside 1..2047                                         front, decode
- *     3      the scale k is outside 1..16                                             decode
- *     4      the limit T is outside 1..200                                            decode
- *     5      the criterion is outside 0..3                                            decode
- *     6      the operand is outside its criterion's range                             decode
- *     7      a list is shorter than needed. A message list shorter than K             all
- *            is tested after 9; the list of settings and the tally before everything
- *     8      a mask value in the first N is neither 0 nor 1                           encode, read_out, decode
- *     9      the mask has no information position                                     encode, read_out, decode
- *    10      a log-likelihood ratio (LLR) in the first N has a size above C           decode
- *    11      the factor or the weight is not finite or not above zero                 front_gaussian, front_flipping
- *    12      a sample in the first N is not finite                                    front
- *    13      a message byte in the first K is above 1                                 encode
- *    14      a malformed report input                                                 none of these functions
- *    15      the tally can't be counted on: blocks at or above 1,000,000; or          decode_tallied
- *            blocks not the sum of endings and refusals; or iterations below the
- *            endings or above 200 times them. Tested before 1 to 10
+ *    number  refused because                                                   returned by
+ *     1      m is outside 1..10                                                all but report
+ *     2      the ceiling C is outside 1..2047                                  front, decode, read, write
+ *     3      the scale k is outside 1..16                                      decode, read, write
+ *     4      the limit T is outside 1..200                                     decode, read, write
+ *     5      the criterion is outside 0..3                                     decode, read, write
+ *     6      the operand is outside its criterion's range                      decode, read, write
+ *     7      a list is shorter than needed. The list of settings and the       all
+ *            tally are tested before everything; a message list shorter
+ *            than K after 9; the text that write fills after 10
+ *     8      a mask value in the first N is neither 0 nor 1                    encode, read_out, decode, read, write
+ *     9      the mask has no information position                              encode, read_out, decode, read, write
+ *    10      a log-likelihood ratio (LLR) in the first N has a size above C    decode, read, write
+ *    11      the factor or the weight is not finite or not above zero          front_gaussian, front_flipping
+ *    12      a sample in the first N is not finite                             front
+ *    13      a message byte in the first K is above 1                          encode
+ *    14      the text of a block is malformed. Its length and first three      read
+ *            lines are tested before 1, the rest of it before 2
+ *    15      the tally can't be counted on: blocks at or above 1,000,000;      decode_tallied
+ *            or blocks not the sum of endings and refusals; or iterations
+ *            below the endings or above 200 times them. Tested before 1 to 10
  */
 #ifndef VEDROGNE_H
 #define VEDROGNE_H
@@ -153,6 +156,74 @@ uint32_t vedrogne_decode_tallied(
     int16_t *work, size_t work_len,
     uint32_t *iterations,
     uint32_t *reason);
+
+/*
+ * The text of a block, as the report program reads it:
+ *
+ *   m ceiling scale limit criterion operand
+ *   1 31 16 10 1 0
+ *   position frozen llr
+ *   0 1 5
+ *   1 0 -3
+ *
+ * Two lines of names, byte for byte as here; the six settings; then for each position, 0 to N-1 in order, its number,
+ * its mask value and its LLR. A value is an optional minus and 1 to 6 digits, leading zeros allowed. Values are parted
+ * by one or more spaces, none stands at either end of a line. Every line ends with byte 10 and nothing follows the last
+ * one. A text has at most 32,768 bytes. It is tidy where it has single spaces, no leading zeros and no minus before 0:
+ * each block has one tidy text, of at most 12,284 bytes.
+ */
+
+/*
+ * Reads the text of a block.
+ *
+ * Written where the call returns 0, else unchanged:
+ *   settings    [0..5]: m, ceiling, scale, limit, criterion, operand
+ *   mask        [0..N-1]: 1 frozen, 0 information
+ *   llr         [0..N-1]: the LLRs
+ *
+ * The decoder accepts what was read. 1,024 elements of mask and llr are enough for every block.
+ * Needed: six elements of settings, N of mask and llr. Numbers: 7 for settings; 14 for the text's length and its first
+ * three lines; 1; 14 for the rest; 2 to 6; 7 for mask and llr; 8, 9, 10.
+ */
+uint32_t vedrogne_read(
+    const uint8_t *text, size_t text_len,
+    uint32_t *settings, size_t settings_len,
+    uint8_t *mask, size_t mask_len,
+    int16_t *llr, size_t llr_len);
+
+/*
+ * Writes the tidy text of a block, whose settings, mask and LLRs are those of vedrogne_decode.
+ *
+ * Written where the call returns 0, else unchanged:
+ *   text        [0..*written-1]: the tidy text, without a byte 0 behind it
+ *   *written    its length
+ *
+ * What it writes vedrogne_read reads as the same settings, mask and LLRs. Two texts that vedrogne_read accepts are
+ * written alike exactly when it reads the same from both.
+ * Needed: six elements of settings, N of mask and llr, and of text as many as the tidy text has bytes; 12,284 are
+ * enough for every block. Numbers: 7 for settings, then 1 to 10, then 7 for the text.
+ */
+uint32_t vedrogne_write(
+    const uint32_t *settings, size_t settings_len,
+    const uint8_t *mask, size_t mask_len,
+    const int16_t *llr, size_t llr_len,
+    uint8_t *text, size_t text_len,
+    size_t *written);
+
+/*
+ * Writes the report on the text of a block, the bytes that the report program prints. A refused text has a report as
+ * well, the line `refused` and a line with the number: the call returns 0 then too.
+ *
+ * Written where the call returns 0, else unchanged:
+ *   out         [0..*written-1]: the report, without a byte 0 behind it
+ *   *written    its length
+ *
+ * Needed: 32,768 elements of out, whatever the text is. Numbers: 7.
+ */
+uint32_t vedrogne_report(
+    const uint8_t *text, size_t text_len,
+    uint8_t *out, size_t out_len,
+    size_t *written);
 
 #ifdef __cplusplus
 }
