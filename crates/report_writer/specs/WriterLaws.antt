@@ -41,8 +41,17 @@ use Rattle.report_input.specs.Input.{
   largestRoom,
   meaning,
 }
-use Rattle.report_input.specs.InputLaws.{read-position-found, head-found, held-whole, Fit, meaning-fit}
+use Rattle.report_input.specs.InputLaws.{
+  read-position-found,
+  head-found,
+  Long,
+  Fit,
+  meaning-fit,
+  Roomy,
+  held-whole,
+}
 use Rattle.report_input.specs.Private.{firstOf}
+use Rattle.report_input.specs.declared.Room.{Room}
 use Rattle.report_writer.specs.ReadBackLaws.{line-back, literal-back}
 use Rattle.report_writer.specs.Writer.{valuesOf, positionValues, tidyText}
 use Rattle.scan.specs.Reading.{found}
@@ -52,10 +61,10 @@ use Rattle.settings.specs.SettingsLaws.{Accepted, accepted}
 
 -- ---- the first N elements of a block: nothing else is tested or written
 
-first-long : {A : Type 0} (n : ℕ) (l : List A) → leb n (length (take n l)) ≡ leb n (length l)
-first-long zero l = leb·zero (length (take zero l)) ∙ sym (leb·zero (length l))
-first-long (suc n) [] = refl
-first-long (suc n) (a ∷ l) = leb·suc-suc n (length (take n l)) ∙ first-long n l ∙ sym (leb·suc-suc n (length l))
+take-long : {A : Type 0} (n : ℕ) (l : List A) → leb n (length (take n l)) ≡ leb n (length l)
+take-long zero l = leb·zero (length (take zero l)) ∙ sym (leb·zero (length l))
+take-long (suc n) [] = refl
+take-long (suc n) (a ∷ l) = leb·suc-suc n (length (take n l)) ∙ take-long n l ∙ sym (leb·suc-suc n (length l))
 
 first-mask : (n : ℕ) (mask : List ℕ) → maskAccepted n (take n mask) ≡ maskAccepted n mask
 first-mask n mask = every-same n _ _ (λ i h. ap isMaskByte (getD-take n mask i 0 h))
@@ -72,8 +81,8 @@ pub first-number : (s : Settings) (b : Block) → blockNumber s (firstOf (2 ^ s 
 first-number s b =
     let n = 2 ^ s .m in
     rw (
-      first-long n (b .mask),
-      first-long n (b .llr),
+      take-long n (b .mask),
+      take-long n (b .llr),
       first-mask n (b .mask),
       first-count n n (b .mask) (omega arith),
       first-within n (s .ceiling) (b .llr),
@@ -157,13 +166,13 @@ llr-same (pos n) h = let e : min n outsideLlr ≡ n = omega arith in ap pos e
 llr-same (negsuc n) h =
     let e : min (suc n) outsideLlr ≡ suc n = omega arith in ap (λ (k : ℕ). negℤ (pos k)) e
 
--- what a text means whose lines are read to its end, and whose block has no number
-read-whole : (t u : List ℕ) (s : Settings) (b : Block) → length t ≤ longestText → head t ≡ found s u
+-- what a text means whose lines are read to its end, and whose block has room and no number
+read-whole : (room : Room) (t u : List ℕ) (s : Settings) (b : Block) → length t ≤ longestText → head t ≡ found s u
     → between 1 largestM (s .m) ≡ true → readPositions (2 ^ s .m) 0 u ≡ found b [] → blockNumber s b ≡ 0
-    → heldIn largestRoom b ≡ b → meaning t ≡ block s b
-unfolding meaning meaningIn
-read-whole t u s b short h m lines none held =
-    let number : blockNumber s (heldIn largestRoom b) ≡ 0 = ap (blockNumber s) held ∙ none in
+    → heldIn room b ≡ b → meaningIn room t ≡ block s b
+unfolding meaningIn
+read-whole room t u s b short h m lines none held =
+    let number : blockNumber s (heldIn room b) ≡ 0 = ap (blockNumber s) held ∙ none in
     rw (le-leb (length t) longestText short, h, m, lines, number)
 
 -- the first three lines give the settings
@@ -211,30 +220,33 @@ pub positions-back : (s : Settings) (b : Block) → blockNumber s b ≡ 0
     → readPositions (2 ^ s .m) 0 (positionLines (positionValues b) (2 ^ s .m) 0) ≡ found (firstOf (2 ^ s .m) b) []
 positions-back s b none = positions-from s b none (2 ^ s .m) 0 (omega arith)
 
--- which have room in the longest slices that are needed
-first-held : (s : Settings) (b : Block) → blockNumber s b ≡ 0
-    → heldIn largestRoom (firstOf (2 ^ s .m) b) ≡ firstOf (2 ^ s .m) b
-first-held s b none =
-    let n = 2 ^ s .m in
+first-long : (s : Settings) (b : Block) → blockNumber s b ≡ 0 → Long (2 ^ s .m) (firstOf (2 ^ s .m) b)
+first-long s b none =
     let slices = facts s b none .slices in
-    let small = positions-le s b none in
-    held-whole largestRoom n (firstOf n b)
-    (record {
-      mask-long = length-take-le n (b .mask) (slices .mask-long);
-      llr-long = length-take-le n (b .llr) (slices .llr-long);
-    })
-    (record { mask-room = small; llr-room = small })
+    record {
+      mask-long = length-take-le (2 ^ s .m) (b .mask) (slices .mask-long);
+      llr-long = length-take-le (2 ^ s .m) (b .llr) (slices .llr-long);
+    }
 
--- what is written of settings and a block that the decoder accepts means these settings and this block; of a block that
--- is longer than N, its first N elements
-pub read-written : (s : Settings) (b : Block) → blockNumber s b ≡ 0
-    → meaning (tidyText s b) ≡ block s (firstOf (2 ^ s .m) b)
-read-written s b none =
+-- what is written of settings and a block that the decoder accepts is read as these settings and this block (of a block
+-- that is longer than N, its first N elements), by every reader whose slices have room for N
+pub read-written-in : (room : Room) (s : Settings) (b : Block) → blockNumber s b ≡ 0 → Roomy room (2 ^ s .m)
+    → meaningIn room (tidyText s b) ≡ block s (firstOf (2 ^ s .m) b)
+read-written-in room s b none roomy =
     let a = facts s b none .settings in
-    read-whole (tidyText s b) (positionLines (positionValues b) (2 ^ s .m) 0) s (firstOf (2 ^ s .m) b)
+    read-whole room (tidyText s b) (positionLines (positionValues b) (2 ^ s .m) 0) s (firstOf (2 ^ s .m) b)
     (tidy-length s b none) (head-back s b none)
     (rw (le-leb 1 (s .m) (a .m-some)) (le-leb (s .m) largestM (a .m-le)))
-    (positions-back s b none) (first-number s b ∙ none) (first-held s b none)
+    (positions-back s b none) (first-number s b ∙ none)
+    (held-whole room (2 ^ s .m) (firstOf (2 ^ s .m) b) (first-long s b none) roomy)
+
+-- so it means these settings and this block
+pub read-written : (s : Settings) (b : Block) → blockNumber s b ≡ 0
+    → meaning (tidyText s b) ≡ block s (firstOf (2 ^ s .m) b)
+unfolding meaning
+read-written s b none =
+    let small = positions-le s b none in
+    read-written-in largestRoom s b none (record { mask-room = small; llr-room = small })
 
 -- ---- the meaning of a text, written
 
@@ -244,11 +256,12 @@ first-whole s b fit =
     let long = fit .long in
     ap₂ blockOf (take-all (2 ^ s .m) (b .mask) (omega arith)) (take-all (2 ^ s .m) (b .llr) (omega arith))
 
+pub fit-means : (s : Settings) (b : Block) → Fit s b → meaning (tidyText s b) ≡ block s b
+fit-means s b fit = read-written s b (fit .number) ∙ ap (block s) (first-whole s b fit)
+
 -- what is written of an accepted text's meaning has that meaning
 pub tidy-means : (t : List ℕ) {s : Settings} {b : Block} → meaning t ≡ block s b → meaning (tidyText s b) ≡ block s b
-tidy-means t {s} {b} e =
-    let fit : Fit s b = rw e at (meaning-fit t) in
-    read-written s b (fit .number) ∙ ap (block s) (first-whole s b fit)
+tidy-means t {s} {b} e = fit-means s b (rw e at (meaning-fit t))
 
 -- two accepted texts are written as the same bytes exactly where they mean the same
 pub written-alike : (t t′ : List ℕ) {s s′ : Settings} {b b′ : Block} → meaning t ≡ block s b → meaning t′ ≡ block s′ b′
