@@ -1,15 +1,17 @@
--- Laws of the writer's room: the text of an accepted block has values of at most four digits, and the room that the
--- report's input has is enough for it; and what the writer answers and leaves, by its number.
-use Prim.Native.Nat.{ℕ, zero, suc, _^_, _≤_, _<_}
-use mathlib.Core.Path.{_≡_, refl, sym}
+-- Laws of the writer's room: how long the text of an accepted block is at most; and what the writer answers and leaves,
+-- by its number.
+use Prim.Native.Nat.{ℕ, zero, suc, _+_, _-_, _^_, _≤_, _<_}
+use mathlib.Core.Path.{_≡_, refl, sym, ap}
 use mathlib.Core.Bool.{true}
-use mathlib.Core.List.{List, _++_}
+use mathlib.Core.List.{List, [], _∷_, _++_}
+use native.Mathlib.Nat.{suc-add}
 use native.Mathlib.Omega.{arith}
 use borrow.Author.Tests.{leb-true, eqb-true, le-leb, lt-leb}
+use lib.IntN.{ℤ, pos, natAbs}
 use lib.ListN.{length, getD, length-append}
 use lib.Pow.{pow-mono}
 use Rattle.calls.specs.declared.Refusal.{Refusal}
-use Rattle.calls.specs.Bounds.{mostPositions}
+use Rattle.calls.specs.Bounds.{mostPositions, largestCeiling}
 use Rattle.calls.specs.EveryLaws.{every-at}
 use Rattle.calls.specs.LentMemory.{writtenOver}
 use Rattle.calls.specs.Numbers.{refusalNumber, firstRefusal}
@@ -18,15 +20,22 @@ use Rattle.polar.specs.Mask.{isMaskByte}
 use Rattle.settings.specs.declared.Settings.{Settings}
 use Rattle.settings.specs.Settings.{operandFits}
 use Rattle.settings.specs.SettingsLaws.{Accepted, accepted}
-use Rattle.format.specs.Decimal.{line}
-use Rattle.format.specs.DecimalLaws.{FourDigits, line-length}
+use Rattle.format.specs.Decimal.{digits, decimal, shown, line}
+use Rattle.format.specs.DecimalLaws.{
+  length-last,
+  decimal-length,
+  shown-length,
+  behind,
+  line-cons,
+  FourDigits,
+}
 use Rattle.format.specs.Texts.{positionLines}
-use Rattle.format.specs.TextLaws.{position-lines-length}
-use Rattle.report_input.specs.Input.{longestText, positionNames, largestLengths, Block, blockNumber}
+use Rattle.report_input.specs.Input.{settingNames, positionNames, largestLengths, Block, blockNumber}
 use Rattle.report_writer.specs.Writer.{
   valuesOf,
   positionValues,
   tidyText,
+  longestTidyText,
   writeNumber,
   wrote,
   rejected,
@@ -35,51 +44,130 @@ use Rattle.report_writer.specs.Writer.{
   textAfter,
 }
 
--- ---- values of at most four digits
+-- ---- what is written of an accepted block
 
 -- an operand is at most as large as the ceiling, or 8
-operand-short : (C criterion operand : ℕ) → C ≤ 9999 → operandFits C criterion operand ≡ true → operand ≤ 9999
-operand-short C zero operand h e = let z = eqb-true operand 0 e in omega arith
-operand-short C (suc zero) operand h e = let z = eqb-true operand 0 e in omega arith
-operand-short C (suc (suc zero)) operand h e = let z = between-passed 1 C operand e in omega arith
-operand-short C (suc (suc (suc n))) operand h e = let z = between-passed 1 8 operand e in omega arith
+operand-le : (C criterion operand : ℕ) → C ≤ largestCeiling → operandFits C criterion operand ≡ true
+    → operand ≤ largestCeiling
+operand-le C zero operand h e = omega (arith, eqb-true operand 0 e)
+operand-le C (suc zero) operand h e = omega (arith, eqb-true operand 0 e)
+operand-le C (suc (suc zero)) operand h e = omega (arith, between-passed 1 C operand e .1)
+operand-le C (suc (suc (suc n))) operand h e = omega (arith, between-passed 1 8 operand e .1)
 
--- an accepted call: its settings, its positions and their values
-module _ (s : Settings) (b : Block) (e : blockNumber s b ≡ 0) where
+-- its settings and its values
+module _ (s : Settings) (b : Block) (none : blockNumber s b ≡ 0) where
   pub block-accepted : Accepted s (b .mask) (b .llr) largestLengths
-  block-accepted = accepted s (b .mask) (b .llr) largestLengths e
+  block-accepted = accepted s (b .mask) (b .llr) largestLengths none
 
   pub few-positions : 2 ^ s .m ≤ mostPositions
   few-positions = pow-mono (block-accepted .settings .m-le)
 
-  pub settings-digits : FourDigits (valuesOf s)
-  settings-digits =
+  operand-small : s .operand ≤ largestCeiling
+  operand-small =
       let a = block-accepted .settings in
-      let operand =
-      operand-short (s .ceiling) (s .criterion) (s .operand) (omega (arith, a .ceiling-le)) (a .operand) in
-      omega (arith, a .m-le, a .ceiling-le, a .scale-le, a .limit-le, a .criterion-le)
+      operand-le (s .ceiling) (s .criterion) (s .operand) (a .ceiling-le) (a .operand)
+
+  module _ (p : ℕ) (h : p < 2 ^ s .m) where
+    pub mask-small : getD (b .mask) p 0 ≤ 1
+    mask-small =
+        leb-true (getD (b .mask) p 0) 1
+        (every-at (2 ^ s .m) p (λ i. isMaskByte (getD (b .mask) i 0)) (block-accepted .values) h)
+
+    pub llr-small : natAbs (getD (b .llr) p (pos 0)) ≤ largestCeiling
+    llr-small = omega (arith, block-accepted .within p h, block-accepted .settings .ceiling-le)
+
+-- ---- how long it is
+
+-- the bytes of a line: those of its values, and one behind each
+abbrev lineBytes : List ℤ → ℕ
+lineBytes [] = 0
+lineBytes (z ∷ zs) = length (shown z) + 1 + lineBytes zs
+
+line-bytes : (zs : List ℤ) → length (line zs) ≡ lineBytes zs
+unfolding line
+line-bytes [] = refl
+line-bytes (z ∷ zs) =
+    omega (
+      arith,
+      ap length (line-cons z zs),
+      length-append (shown z ++ (behind zs ∷ [])) (line zs),
+      length-last (shown z) (behind zs),
+      line-bytes zs,
+    )
+
+shown-digits : (k n : ℕ) → n < 10 ^ suc k → length (shown (pos n)) ≤ suc k
+unfolding shown
+shown-digits k n h = decimal-length k n h
+
+-- the most bytes of the lines of n positions from p on: the digits of each, and 9 for a mask value, an LLR and what
+-- parts them
+linesBytes : ℕ → ℕ → ℕ
+linesBytes zero p = 0
+linesBytes (suc n) p = length (shown (pos p)) + 9 + linesBytes n (suc p)
+
+lines-rise : (n k p : ℕ) → linesBytes n p ≤ linesBytes (n + k) p
+unfolding linesBytes
+lines-rise zero k p = omega arith
+lines-rise (suc n) k p = rw suc-add (omega (arith, lines-rise n k (suc p)))
+
+lines-all : linesBytes mostPositions 0 ≡ 12202
+unfolding linesBytes shown decimal digits
+lines-all = refl
+
+lines-most : (n : ℕ) → n ≤ mostPositions → linesBytes n 0 ≤ 12202
+lines-most n h =
+    let more : n + (mostPositions - n) ≡ mostPositions = omega arith in
+    rw (← lines-all, ← more) (lines-rise n (mostPositions - n) 0)
+
+module _ (s : Settings) (b : Block) (none : blockNumber s b ≡ 0) where
+  pub settings-digits : FourDigits (valuesOf s)
+  settings-digits = let a = block-accepted s b none .settings in omega (arith, operand-small s b none)
 
   pub position-digits : (p : ℕ) → p < 2 ^ s .m → FourDigits (positionValues b p)
   position-digits p h =
-      let frozen = leb-true (getD (b .mask) p 0) 1
-      (every-at (2 ^ s .m) p (λ i. isMaskByte (getD (b .mask) i 0)) (block-accepted .values) h) in
-      omega (arith, few-positions, block-accepted .within p h, block-accepted .settings .ceiling-le)
+      omega (arith, few-positions s b none, mask-small s b none p h, llr-small s b none p h)
 
-  -- 40 and 20 bytes of names, 36 bytes of settings at most, and 18 a position at most
-  pub tidy-length : length (tidyText s b) ≤ longestText
-  unfolding tidyText
-  tidy-length =
-      let lines = positionLines (positionValues b) (2 ^ s .m) 0 in
-      let short =
-      position-lines-length 18 (positionValues b) (2 ^ s .m) 0
-      (λ p l h. line-length (positionValues b p) (position-digits p (omega arith))) in
+  pub settings-bytes : length (line (valuesOf s)) ≤ 22
+  settings-bytes =
+      let a = block-accepted s b none .settings in
       omega (
         arith,
-        few-positions,
-        short,
-        line-length (valuesOf s) settings-digits,
-        length-append (line (valuesOf s)) positionNames,
-        length-append (line (valuesOf s) ++ positionNames) lines,
+        line-bytes (valuesOf s),
+        shown-digits 1 (s .m) (omega arith),
+        shown-digits 3 (s .ceiling) (omega arith),
+        shown-digits 1 (s .scale) (omega arith),
+        shown-digits 2 (s .limit) (omega arith),
+        shown-digits 0 (s .criterion) (omega arith),
+        shown-digits 3 (s .operand) (omega (arith, operand-small s b none)),
+      )
+
+  lines-bytes : (n p : ℕ) → p + n ≤ 2 ^ s .m → length (positionLines (positionValues b) n p) ≤ linesBytes n p
+  unfolding positionLines linesBytes
+  lines-bytes zero p h = omega arith
+  lines-bytes (suc n) p h =
+      omega (
+        arith,
+        length-append (line (positionValues b p)) (positionLines (positionValues b) n (suc p)),
+        line-bytes (positionValues b p),
+        shown-digits 0 (getD (b .mask) p 0) (omega (arith, mask-small s b none p (omega arith))),
+        shown-length (getD (b .llr) p (pos 0)) (omega (arith, llr-small s b none p (omega arith))),
+        lines-bytes n (suc p) (omega arith),
+      )
+
+  -- no tidy text is longer, so every one can be read
+  pub tidy-length : length (tidyText s b) ≤ longestTidyText
+  unfolding tidyText
+  tidy-length =
+      let n = 2 ^ s .m in
+      let lines = positionLines (positionValues b) n 0 in
+      omega (
+        arith,
+        settings-bytes,
+        lines-bytes n 0 (omega arith),
+        lines-most n (few-positions s b none),
+        length-append (settingNames ++ line (valuesOf s) ++ positionNames) lines,
+        length-append (settingNames ++ line (valuesOf s)) positionNames,
+        length-append settingNames (line (valuesOf s)),
       )
 
 -- ---- the answer, and the slice afterwards

@@ -39,6 +39,10 @@ tidyText s b =
     ++ positionNames
     ++ positionLines (positionValues b) (2 ^ s .m) 0
 
+-- the most bytes of the text of a block that is accepted: 1,024 positions, and as many digits as the ranges allow
+abbrev pub longestTidyText : ℕ
+longestTidyText = 12284
+
 -- ---- the number: the decoder's, of what is handed in; last of all 7, for a slice shorter than the text
 
 abbrev pub writeNumber : Settings → Block → ℕ → ℕ

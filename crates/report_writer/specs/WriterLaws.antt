@@ -1,5 +1,5 @@
--- Laws of the tidy text: it writes the first N elements of a block and no other, its values and lines are short, and
--- reading it gives the settings and the block back.
+-- Laws of the tidy text: it writes the first N elements of a block and no other, reading it gives the settings and the
+-- block back, and it is the one text of its settings and block.
 use Prim.Native.Nat.{ℕ, zero, suc, _+_, _*_, _^_, _<_, _≤_, min}
 use mathlib.Core.Path.{_≡_, refl, sym, ap, ap₂, _∙_}
 use mathlib.Core.Bool.{true}
@@ -53,6 +53,15 @@ use Rattle.report_input.specs.InputLaws.{
 use Rattle.report_input.specs.Private.{firstOf}
 use Rattle.report_input.specs.declared.Room.{Room}
 use Rattle.report_writer.specs.ReadBackLaws.{line-back, literal-back}
+use Rattle.report_writer.specs.RoomLaws.{
+  block-accepted,
+  few-positions,
+  mask-small,
+  llr-small,
+  settings-digits,
+  position-digits,
+  tidy-length,
+}
 use Rattle.report_writer.specs.Writer.{valuesOf, positionValues, tidyText}
 use Rattle.scan.specs.Reading.{found}
 use Rattle.settings.specs.declared.Settings.{Settings}
@@ -97,69 +106,13 @@ tidy-first s b =
     (position-lines-same (positionValues (firstOf n b)) (positionValues b) n 0
     (λ i _ h. let l : i < n = omega arith in rw (getD-take n (b .mask) i 0 l, getD-take n (b .llr) i (pos 0) l)))
 
--- ---- what is written of an accepted block: values of at most four digits, in short lines
-
-operand-le : (C criterion operand : ℕ) → operandFits C criterion operand ≡ true → operand ≤ C + 8
-operand-le C zero operand e = omega (arith, eqb-true operand 0 e)
-operand-le C (suc zero) operand e = omega (arith, eqb-true operand 0 e)
-operand-le C (suc (suc zero)) operand e = omega (arith, between-passed 1 C operand e .1)
-operand-le C (suc (suc (suc n))) operand e = omega (arith, between-passed 1 8 operand e .1)
-
-module _ (s : Settings) (b : Block) (none : blockNumber s b ≡ 0) where
-  facts : Accepted s (b .mask) (b .llr) largestLengths
-  facts = accepted s (b .mask) (b .llr) largestLengths none
-
-  positions-le : 2 ^ s .m ≤ mostPositions
-  positions-le = pow-mono (facts .settings .m-le)
-
-  mask-le : (p : ℕ) → p < 2 ^ s .m → getD (b .mask) p 0 ≤ 1
-  mask-le p h =
-      leb-true (getD (b .mask) p 0) 1
-      (every-at (2 ^ s .m) p (λ i. isMaskByte (getD (b .mask) i 0)) (facts .values) h)
-
-  llr-le : (p : ℕ) → p < 2 ^ s .m → natAbs (getD (b .llr) p (pos 0)) ≤ largestCeiling
-  llr-le p h = let a = facts .settings in omega (arith, facts .within p h)
-
-  pub values-digits : FourDigits (valuesOf s)
-  values-digits =
-      let a = facts .settings in
-      omega (arith, operand-le (s .ceiling) (s .criterion) (s .operand) (a .operand))
-
-  pub position-digits : (p : ℕ) → p < 2 ^ s .m → FourDigits (positionValues b p)
-  position-digits p h = omega (arith, positions-le, mask-le p h, llr-le p h)
-
-  pub settings-line : length (line (valuesOf s)) ≤ 36
-  settings-line = line-length (valuesOf s) values-digits
-
-  pub position-line : (p : ℕ) → p < 2 ^ s .m → length (line (positionValues b p)) ≤ 18
-  position-line p h = line-length (positionValues b p) (position-digits p h)
-
-  lines-length : length (positionLines (positionValues b) (2 ^ s .m) 0) ≤ 18 * 2 ^ s .m
-  lines-length =
-      position-lines-length 18 (positionValues b) (2 ^ s .m) 0 (λ i _ h. position-line i (omega arith))
+-- ---- reading it
 
 -- the names, the line of the settings, the names, and the lines of the positions
 parts : (s : Settings) (b : Block) → tidyText s b
     ≡ settingNames ++ (line (valuesOf s) ++ (positionNames ++ positionLines (positionValues b) (2 ^ s .m) 0))
 unfolding tidyText
 parts s b = simp append-assoc
-
--- no tidy text is too long to be read
-pub tidy-length : (s : Settings) (b : Block) → blockNumber s b ≡ 0 → length (tidyText s b) ≤ longestText
-unfolding tidyText
-tidy-length s b none =
-    let lines = positionLines (positionValues b) (2 ^ s .m) 0 in
-    omega (
-      arith,
-      positions-le s b none,
-      settings-line s b none,
-      lines-length s b none,
-      length-append (settingNames ++ line (valuesOf s) ++ positionNames) lines,
-      length-append (settingNames ++ line (valuesOf s)) positionNames,
-      length-append settingNames (line (valuesOf s)),
-    )
-
--- ---- reading it
 
 llr-same : (z : ℤ) → natAbs z ≤ outsideLlr → llrValue z ≡ z
 llr-same (pos n) h = let e : min n outsideLlr ≡ n = omega arith in ap pos e
@@ -184,20 +137,20 @@ head-back s b none =
     let second = line (valuesOf s) ++ third in
     ap head (parts s b)
     ∙ head-found (settingNames ++ second) second third lines (valuesOf s) (literal-back settingNames second)
-    (line-back (valuesOf s) third (values-digits s b none)) (literal-back positionNames lines)
+    (line-back (valuesOf s) third (settings-digits s b none)) (literal-back positionNames lines)
 
 module _ (s : Settings) (b : Block) (none : blockNumber s b ≡ 0) where
   position-back : (p : ℕ) (u : List ℕ) → p < 2 ^ s .m → readPosition p (line (positionValues b p) ++ u)
       ≡ found (record { frozen = getD (b .mask) p 0; llr = getD (b .llr) p (pos 0) }) u
   position-back p u h =
-      let kept = mask-le s b none p h in
+      let kept = mask-small s b none p h in
       let mask-same : min (getD (b .mask) p 0) outsideMask ≡ getD (b .mask) p 0 = omega arith in
       read-position-found p (positionValues b p) (line (positionValues b p) ++ u) u
       (line-back (positionValues b p) u (position-digits s b none p h))
       ∙ rw (
         eq-eqb p p refl,
         mask-same,
-        llr-same (getD (b .llr) p (pos 0)) (omega (arith, llr-le s b none p h)),
+        llr-same (getD (b .llr) p (pos 0)) (omega (arith, llr-small s b none p h)),
       )
 
   -- the lines of n positions from p on give their part of the block
@@ -207,7 +160,7 @@ module _ (s : Settings) (b : Block) (none : blockNumber s b ≡ 0) where
   unfolding readPositions positionLines
   positions-from zero p h = refl
   positions-from (suc n) p h =
-      let slices = facts s b none .slices in
+      let slices = block-accepted s b none .slices in
       rw (
         position-back p (positionLines (positionValues b) n (suc p)) (omega arith),
         positions-from n (suc p) (omega arith),
@@ -222,7 +175,7 @@ positions-back s b none = positions-from s b none (2 ^ s .m) 0 (omega arith)
 
 first-long : (s : Settings) (b : Block) → blockNumber s b ≡ 0 → Long (2 ^ s .m) (firstOf (2 ^ s .m) b)
 first-long s b none =
-    let slices = facts s b none .slices in
+    let slices = block-accepted s b none .slices in
     record {
       mask-long = length-take-le (2 ^ s .m) (b .mask) (slices .mask-long);
       llr-long = length-take-le (2 ^ s .m) (b .llr) (slices .llr-long);
@@ -233,9 +186,9 @@ first-long s b none =
 pub read-written-in : (room : Room) (s : Settings) (b : Block) → blockNumber s b ≡ 0 → Roomy room (2 ^ s .m)
     → meaningIn room (tidyText s b) ≡ block s (firstOf (2 ^ s .m) b)
 read-written-in room s b none roomy =
-    let a = facts s b none .settings in
+    let a = block-accepted s b none .settings in
     read-whole room (tidyText s b) (positionLines (positionValues b) (2 ^ s .m) 0) s (firstOf (2 ^ s .m) b)
-    (tidy-length s b none) (head-back s b none)
+    (omega (arith, tidy-length s b none)) (head-back s b none)
     (rw (le-leb 1 (s .m) (a .m-some)) (le-leb (s .m) largestM (a .m-le)))
     (positions-back s b none) (first-number s b ∙ none)
     (held-whole room (2 ^ s .m) (firstOf (2 ^ s .m) b) (first-long s b none) roomy)
@@ -245,7 +198,7 @@ pub read-written : (s : Settings) (b : Block) → blockNumber s b ≡ 0
     → meaning (tidyText s b) ≡ block s (firstOf (2 ^ s .m) b)
 unfolding meaning
 read-written s b none =
-    let small = positions-le s b none in
+    let small = few-positions s b none in
     read-written-in largestRoom s b none (record { mask-room = small; llr-room = small })
 
 -- ---- the meaning of a text, written

@@ -1,5 +1,5 @@
 // The writer of the report's input: settings, mask and LLRs become the one text that they are written as.
-// It sees `settings` for every test of the decoder, `format`, and the longest text of `report_input`. It promises the
+// It sees `settings` for every test of the decoder, the names and definitions of `report_input`, and `format`. It promises the
 // text that request 2026-01 gives, from the first byte of the lent slice on, its old contents behind, and the text's
 // length; or the number of a refusal, where nothing is written.
 ghost use mathlib.Core.Path.{_≡_};
@@ -13,16 +13,18 @@ ghost use Rattle.format.specs.Decimal.{line};
 ghost use Rattle.format.specs.DecimalLaws.{FourDigits};
 ghost use Rattle.format.specs.Texts.{positionLines};
 ghost use Rattle.format.specs.Wrote.{Wrote};
-ghost use Rattle.report_input.specs.Input.{longestText, blockOf, blockNumber};
-ghost use Rattle.report_writer.specs.Writer.{valuesOf, positionValues, tidyText};
+ghost use Rattle.report_input.specs.Input.{blockOf, blockNumber};
+ghost use Rattle.report_writer.specs.Writer.{valuesOf, positionValues, tidyText, longestTidyText};
 ghost use Rattle.report_writer.specs.Writer.{answerOf, writeAnswer, textAfter};
 use calls::Answer;
 use calls::MOST_POSITIONS;
 use calls::MOST_WORKSPACE;
 use calls::Refusal;
-use report_input::LONGEST_TEXT;
 use settings::Lengths;
 use settings::Settings;
+
+// The most bytes of a text that is written.
+pub const LONGEST_TIDY_TEXT: usize = 12284;
 
 // The length of the text, or a refusal.
 pub enum Written {
@@ -89,7 +91,7 @@ fn position_lines(out: &mut [u8], at: usize, n: usize, mask: &[u8], llr: &[i16])
 // The text of an accepted block, where there is room for every text.
 fn compose(out: &mut [u8], settings: Settings, mask: &[u8], llr: &[i16]) -> usize
     requires { ⌜ blockNumber settings (blockOf (now mask) (now llr)) ≡ 0 ⌝ }
-    requires { ⌜ longestText ≤ length (now out) ⌝ }
+    requires { ⌜ longestTidyText ≤ length (now out) ⌝ }
     ensures { λ r. ⌜ Wrote (now (out .entry)) 0
         (tidyText settings (blockOf (now (mask .entry)) (now (llr .entry)))) (now (out .exit)) r ⌝ }
 {
@@ -110,7 +112,7 @@ pub fn write(settings: Settings, mask: &[u8], llr: &[i16], text: &mut [u8]) -> W
     match refusal(settings, mask, llr) {
         Answer::Refused(refusal) => Written::Refused(refusal),
         Answer::Done => {
-            let mut own = [0u8; LONGEST_TEXT];
+            let mut own = [0u8; LONGEST_TIDY_TEXT];
             let length = compose(&mut own, settings, mask, llr);
             if text.len() < length {
                 return Written::Refused(Refusal::ShortSlice);

@@ -5,13 +5,18 @@ use native.Mathlib.Omega.{arith}
 use lib.ListN.{length, length-append}
 use Rattle.settings.specs.declared.Settings.{Settings}
 use Rattle.format.specs.Decimal.{line}
-use Rattle.format.specs.DecimalLaws.{line-length}
 use Rattle.format.specs.Texts.{positionLines}
 use Rattle.format.specs.Wrote.{Wrote}
 use Rattle.format.specs.WroteLaws.{wrote-then, wrote-room}
 use Rattle.report_input.specs.Input.{settingNames, positionNames, Block, blockOf}
 use Rattle.report_writer.specs.Writer.{valuesOf, positionValues, tidyText}
-use Rattle.report_writer.specs.RoomLaws.{block-accepted, few-positions, settings-digits, tidy-length}
+use Rattle.report_writer.specs.RoomLaws.{
+  block-accepted,
+  few-positions,
+  settings-digits,
+  settings-bytes,
+  tidy-length,
+}
 use borrow.Author.Needs.{needs}
 use Rattle.report_writer.proofs.compose.Statement.{statement}
 use Rattle.report_writer.proofs.compose.Tie as tie
@@ -27,8 +32,8 @@ module _ (c : tie.After-copy) where
   abbrev b : Block
   b = blockOf (start .args .mask .now) (start .args .llr .now)
 
-  short : length (line (valuesOf s)) ≤ 36
-  short = line-length (valuesOf s) (settings-digits s b (start .pre .0))
+  short : length (line (valuesOf s)) ≤ 22
+  short = settings-bytes s b (start .pre .0)
 
 -- the names and the line of the settings
 module _ (c : tie.After-settings-line) where

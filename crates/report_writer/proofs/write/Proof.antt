@@ -10,8 +10,8 @@ use Rattle.calls.specs.LentMemoryLaws.{written-sets}
 use Rattle.calls.specs.Numbers.{numberOf}
 use Rattle.settings.specs.declared.Settings.{Settings}
 use Rattle.format.specs.WroteLaws.{wrote-length, wrote-first}
-use Rattle.report_input.specs.Input.{longestText, Block, blockOf, blockNumber}
-use Rattle.report_writer.specs.Writer.{tidyText, wrote}
+use Rattle.report_input.specs.Input.{Block, blockOf, blockNumber}
+use Rattle.report_writer.specs.Writer.{tidyText, longestTidyText, wrote}
 use Rattle.report_writer.specs.RoomLaws.{
   tidy-length,
   refused-answer,
@@ -61,11 +61,11 @@ module _ (c : tie.After-compose) where
   long : c .compose .result ≡ length text
   long = c .compose .ensures .next-is ∙ zero-add (length text)
 
-  short : length text ≤ longestText
+  short : length text ≤ longestTidyText
   short = tidy-length (s call) (b call) passed
 
   composed : take (c .compose .result) (c .compose .last .0) ≡ text
-  composed = wrote-first (c .compose .ensures) (omega (arith, short, length-replicate {A = ℕ} longestText 0))
+  composed = wrote-first (c .compose .ensures) (omega (arith, short, length-replicate {A = ℕ} longestTidyText 0))
 
 refusal-requires : tie.Need-refusal-requires
 refusal-requires c κs = search needs
@@ -80,7 +80,7 @@ slice-aggregate-compose : tie.Need-slice-aggregate-compose
 slice-aggregate-compose c = search needs
 
 compose-requires : tie.Need-compose-requires
-compose-requires c κs = (number c, omega (arith, length-replicate {A = ℕ} longestText 0))
+compose-requires c κs = (number c, omega (arith, length-replicate {A = ℕ} longestTidyText 0))
 
 returns : tie.Need-returns
 returns c =
@@ -95,7 +95,7 @@ array-share-prefix-own : tie.Need-array-share-prefix-own
 array-share-prefix-own c =
     let made = c .before .before .before in
     let same = wrote-length (made .compose .ensures) in
-    omega (arith, long made, short made, same, length-replicate {A = ℕ} longestText 0)
+    omega (arith, long made, short made, same, length-replicate {A = ℕ} longestTidyText 0)
 
 slice-aggregate-copy : tie.Need-slice-aggregate-copy
 slice-aggregate-copy c = let made = c .before .before .before .before in long made ∙ sym (ap length (composed made))
