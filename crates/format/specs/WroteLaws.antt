@@ -5,8 +5,8 @@ use mathlib.Core.List.{List, [], _∷_, _++_}
 use native.Mathlib.Omega.{arith}
 use native.Mathlib.Nat.{add-zero}
 use lib.ListN.{length, set, take, drop, length-append}
-use lib.Seq.{sets, sets-eq, length-sets, take-append-seam}
-use Rattle.format.specs.Wrote.{Wrote}
+use lib.Seq.{sets, sets-eq, length-sets, length-take-le, take-append-seam}
+use Rattle.format.specs.Wrote.{Wrote, Within}
 
 -- to store two texts, the second from the position j behind the first on, is to store them as one
 pub sets-append : (l : List ℕ) (i j : ℕ) (x y : List ℕ) → j ≡ i + length x → sets l i (x ++ y) ≡ sets (sets l i x) j y
@@ -42,6 +42,13 @@ pub wrote-first : {old new : List ℕ} {next : ℕ} {x : List ℕ} → Wrote old
 wrote-first {old = old} {x = x} w h =
     let n : 0 + length x ≡ length x = omega arith in
     rw (w .new-is ∙ sets-eq x old 0 (omega arith), w .next-is, n) (take-append-seam x (drop (length x) old))
+
+-- its length counts bytes of the slice
+pub wrote-within : {old new : List ℕ} {at next : ℕ} {x : List ℕ} → Wrote old at x new next → next ≤ length old
+    → Within next new
+wrote-within {new = new} {next = next} w h =
+    let long = wrote-length w in
+    (omega (arith, long), sym (length-take-le next new (omega (arith, long))))
 
 -- nothing written
 pub wrote-none : {old : List ℕ} {at : ℕ} → Wrote old at [] old at

@@ -3,7 +3,8 @@ use Prim.Native.Nat.{ℕ, _^_}
 use mathlib.Core.Path.{_≡_, refl, sym, ap, _∙_, subst}
 use mathlib.Core.Bool.{Bool, true, false, true≢false}
 use mathlib.Core.List.{List}
-use lib.ListN.{length, drop, take}
+use lib.IntN.{pos}
+use lib.ListN.{length, drop, take, replicate, length-replicate}
 use lib.Seq.{take-at}
 use Rattle.calls.specs.Bounds.{mostPositions}
 use Rattle.calls.specs.declared.Refusal.{Refusal}
@@ -11,6 +12,7 @@ use Rattle.calls.specs.Numbers.{refusalNumber}
 use Rattle.settings.specs.declared.Settings.{Settings}
 use Rattle.report_input.specs.Input.{
   Block,
+  blockOf,
   Meaning,
   refused,
   block,
@@ -72,6 +74,16 @@ module _ {old new : Block} {r : Input} where
 meaning-lent : (lent : Block) (t : List ℕ) → Long mostPositions lent → meaningIn (roomOf lent) t ≡ meaning t
 unfolding meaning
 meaning-lent lent t long = rw (long .mask-long, long .llr-long)
+
+-- as a caller's own arrays are
+abbrev pub cleared : Block
+cleared = blockOf (replicate mostPositions 0) (replicate mostPositions (pos 0))
+
+pub cleared-long : Long mostPositions cleared
+cleared-long = record {
+  mask-long = length-replicate {A = ℕ} mostPositions 0;
+  llr-long = length-replicate mostPositions (pos 0);
+}
 
 module _ (t : List ℕ) {old new : Block} {r : Input} (long : Long mostPositions old)
     (read : InputRead (meaningIn (roomOf old) t) old new r) where

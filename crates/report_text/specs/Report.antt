@@ -1,10 +1,9 @@
 -- Document 01, "The report's text": the output, and the report as a whole, from the bytes of a text to bytes.
 -- Definitions only.
-use Prim.Native.Nat.{ℕ, _^_, _≤_}
-use mathlib.Core.Path.{_≡_}
+use Prim.Native.Nat.{ℕ, _^_}
 use mathlib.Core.List.{List, [], _∷_, _++_}
 use lib.IntN.{ℤ, pos}
-use lib.ListN.{length, take, replicate}
+use lib.ListN.{replicate}
 use Rattle.settings.specs.declared.Settings.{Settings}
 use Rattle.decoder.specs.Decoder.{Ending, ending, final, softAt, markAt, codedSoftAt, codedMarkAt}
 use Rattle.calls.specs.Texts.{bytes}
@@ -55,10 +54,3 @@ textOf (block s b) = blockText s b workspace
 
 unfoldable pub report : List ℕ → List ℕ
 report text = textOf (meaning text)
-
--- ---- its length
-
--- n counts elements at the start of a list. The second part follows from the first; stated, it spares a caller that
--- lends them a proof
-abbrev pub Within : ℕ → List ℕ → Type 0
-Within n l = (n ≤ length l) × (n ≡ length (take n l))

@@ -1,6 +1,6 @@
 -- Reading what was written gives it back: numbers, lines and fixed texts, in front of any text.
 use Prim.Native.Nat.{ℕ, suc, _+_, _-_, _*_, _/_, _%_, _<_, _≤_}
-use mathlib.Core.Path.{_≡_, refl, ap, _∙_}
+use mathlib.Core.Path.{_≡_, refl, sym, ap, ap₂, _∙_}
 use mathlib.Core.Bool.{true, false}
 use mathlib.Core.List.{List, [], _∷_, _++_, append-assoc}
 use native.Mathlib.Nat.{add-assoc, zero-add}
@@ -8,7 +8,7 @@ use native.Mathlib.Numerals.{one-add}
 use native.Mathlib.Omega.{arith}
 use lib.Dec.{eqb}
 use lib.IntN.{ℤ, pos, negsuc, natAbs}
-use lib.ListN.{length}
+use lib.ListN.{length, length-append}
 use borrow.Author.Tests.{le-leb, eq-eqb, ne-eqb}
 use Rattle.format.specs.Decimal as format
 use Rattle.format.specs.Decimal.{decimal, shown}
@@ -22,7 +22,7 @@ use Rattle.format.specs.DecimalLaws.{
   line-cons,
   FourDigits,
 }
-use Rattle.scan.specs.Reading.{found, first}
+use Rattle.scan.specs.Reading.{Reading, found, malformed, first}
 use Rattle.scan.specs.Numbers.{isDigit, digits, natural, number}
 use Rattle.scan.specs.Lines.{spaces, separator, line, literal}
 use Rattle.scan.specs.ScanLaws.{digit-range, digits-end, natural-found, spaces-end}
@@ -59,6 +59,18 @@ digits-back = by-digits DigitsBack small large
         (tenth (1 + j) ((48 + n % 10) ∷ s)
         ∙ digits-one j (n / 10) (n % 10) s (omega arith)
         ∙ ap (λ (v : ℕ). digits j v s) whole)
+
+-- so a number's digits are its own
+pub decimal-same : (n k : ℕ) (s : List ℕ) → decimal n ++ s ≡ decimal k ++ s → n ≡ k
+unfolding digits
+decimal-same n k s e =
+    let long : length (decimal n) ≡ length (decimal k) =
+    omega (arith, ap length e, length-append (decimal n) s, length-append (decimal k) s) in
+    ap valueOf (sym (digits-back n 0 s) ∙ ap₂ (λ (j : ℕ) (t : List ℕ). digits (j + 0) 0 t) long e ∙ digits-back k 0 s)
+  where
+    valueOf : Reading ℕ → ℕ
+    valueOf (found v t) = v
+    valueOf malformed = 0
 
 abbrev FirstDigit : ℕ → Type 0
 FirstDigit n = (s : List ℕ) → isDigit (first (decimal n ++ s)) ≡ true

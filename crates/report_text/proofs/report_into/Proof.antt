@@ -4,14 +4,13 @@ use mathlib.Core.Path.{_≡_, refl, sym, ap, _∙_, subst}
 use mathlib.Core.List.{List}
 use native.Mathlib.Omega.{arith}
 use lib.IntN.{pos}
-use lib.ListN.{length, take, replicate, length-take, length-replicate}
+use lib.ListN.{length, take, length-take, length-replicate}
 use Rattle.format.specs.Wrote.{Wrote}
 use Rattle.format.specs.TextLaws.{refusal-length}
-use Rattle.calls.specs.Bounds.{mostPositions, mostWorkspace}
+use Rattle.calls.specs.Bounds.{mostWorkspace}
 use Rattle.report_input.specs.Input.{Block, blockOf, meaning}
-use Rattle.report_input.specs.InputLaws.{Long}
 use Rattle.report_input.specs.Private.{firstOf}
-use Rattle.report_input.specs.ReadLaws.{AcceptedText, accepted-text, refused-text}
+use Rattle.report_input.specs.ReadLaws.{AcceptedText, cleared-long, accepted-text, refused-text}
 use Rattle.report_text.specs.Report.{textOf, report}
 use Rattle.report_text.specs.ReportLaws.{fit-length}
 use borrow.Author.Needs.{needs}
@@ -23,16 +22,6 @@ use Rattle.report_input.proofs.read.Reads as read-reads
 use Rattle.report_text.proofs.decoded.Reads as decoded-reads
 use Rattle.format.proofs.refused.Reads as refused-reads
 use Rattle.polar.proofs.power_of_two.Reads as power-of-two-reads
-
--- what the slices hold before the reading
-abbrev lent : Block
-lent = blockOf (replicate mostPositions 0) (replicate mostPositions (pos 0))
-
-lent-long : Long mostPositions lent
-lent-long = record {
-  mask-long = length-replicate {A = ℕ} mostPositions 0;
-  llr-long = length-replicate mostPositions (pos 0);
-}
 
 -- what the function is handed, and what the slices hold behind the reading
 module _ (c : tie.After-read) where
@@ -53,7 +42,7 @@ module _ (c : tie.After-power-of-two) where
   text : AcceptedText (meaning (start reading .args .text .now)) (c .before .before .settings .given .0 .0)
       (firstOf n (slices reading))
   text =
-      accepted-text (start reading .args .text .now) lent-long (reading .read .ensures)
+      accepted-text (start reading .args .text .now) cleared-long (reading .read .ensures)
       (c .before .before .settings .given .1) (c .power-of-two .ensures)
 
   -- its mask and LLRs have as many elements as the part that is lent
@@ -88,7 +77,7 @@ power-of-two-requires : tie.Need-power-of-two-requires
 power-of-two-requires c κs =
     let r = c .before .before .before .before .before in
     let told = c .before .settings .given .1 in
-    fit-length (accepted-text (start r .args .text .now) lent-long (r .read .ensures) told refl .fit)
+    fit-length (accepted-text (start r .args .text .now) cleared-long (r .read .ensures) told refl .fit)
 
 array-share-prefix-mask : tie.Need-array-share-prefix-mask
 array-share-prefix-mask c =
@@ -124,7 +113,7 @@ returns c =
     let r = told .before .before .before .before in
     let a = start r .args in
     let w = written .refused in
-    let means = refused-text (a .text .now) lent-long (r .read .ensures) (told .refusal .given .1) in (
+    let means = refused-text (a .text .now) cleared-long (r .read .ensures) (told .refusal .given .1) in (
       subst (λ (text : List ℕ). Wrote (a .out .now) 0 text (w .last .0) (w .result)) (sym (ap textOf means))
           (w .ensures),
       omega (arith, w .ensures .next-is, refusal-length (told .refusal .given .0 .0)),

@@ -1,0 +1,103 @@
+-- `written` meets its contract.
+use Prim.Native.Nat.{ℕ, _≤_}
+use mathlib.Core.Path.{_≡_, sym, ap, _∙_}
+use mathlib.Core.Bool.{Bool, true, false, true≢false}
+use mathlib.Core.List.{List}
+use native.Mathlib.Nat.{zero-add}
+use native.Mathlib.Omega.{arith}
+use lib.ListN.{length}
+use Rattle.calls.specs.LentMemoryLaws.{written-sets}
+use Rattle.format.specs.TextLaws.{refusal-length}
+use Rattle.report_input.specs.Input.{Block, blockOf}
+use Rattle.report_writer.specs.Writer.{tidyText, WriteAnswer, wrote, rejected, answerOf}
+use Rattle.report_writer.specs.RoomLaws.{tidy-length, written-answer, written-text}
+use Rattle.settings.specs.declared.Settings.{Settings}
+use borrow.Author.Needs.{needs}
+use Rattle.tidy_text.proofs.written.Statement.{statement}
+use Rattle.tidy_text.proofs.written.Tie as tie
+
+isWrote : WriteAnswer → Bool
+isWrote (wrote n) = true
+isWrote (rejected number) = false
+
+lengthIn : WriteAnswer → ℕ
+lengthIn (wrote n) = n
+lengthIn (rejected number) = number
+
+-- what the function is handed, and that the writer accepts it
+module _ (c : tie.After-write) where
+  abbrev start : tie.Start
+  start = c .before .before .before .before
+
+  abbrev s : Settings
+  s = start .args .settings
+
+  abbrev b : Block
+  b = blockOf (start .args .mask .now) (start .args .llr .now)
+
+  abbrev old : List ℕ
+  old = start .args .out .now
+
+  fits : length (tidyText s b) ≤ length old
+  fits = omega (arith, tidy-length s b (start .pre .0), start .pre .1)
+
+  answer : answerOf (c .write .result) ≡ wrote (length (tidyText s b))
+  answer = c .write .ensures .0 ∙ sym (written-answer s b old (start .pre .0) fits)
+
+write-requires : tie.Need-write-requires
+write-requires c κs = search needs
+
+enum-known-length : tie.Need-enum-known-length
+enum-known-length c = search needs
+
+enum-known-refusal : tie.Need-enum-known-refusal
+enum-known-refusal c = search needs
+
+refused-requires : tie.Need-refused-requires
+refused-requires c κs =
+    let told = c .before .before in
+    let room = told .before .before .before .out .given in
+    omega (arith, refusal-length (told .refusal .given .0 .0), room, start (told .before .before .before .before) .pre .1)
+
+same-length : tie.Need-same-length
+same-length c = search needs
+
+returns : tie.Need-returns
+unfolding lengthIn
+returns c =
+    let told = c .before .length .given in
+    let w = c .before .before .before .before .before in
+    let text = tidyText (s w) (b w) in
+    let long : told .0 .0 ≡ length text = ap lengthIn (sym (ap answerOf (told .1)) ∙ answer w) in (
+      record {
+        new-is =
+            w .write .ensures .1
+            ∙ sym (written-text (s w) (b w) (old w) (start w .pre .0) (fits w))
+            ∙ sym (written-sets text (old w) (fits w));
+        next-is = long ∙ sym (zero-add (length text));
+      },
+      rw long (tidy-length (s w) (b w) (start w .pre .0)),
+    )
+
+same-length-2 : tie.Need-same-length-2
+same-length-2 c = search needs
+
+returns-2 : tie.Need-returns-2
+unfolding isWrote
+returns-2 c =
+    let told = c .before .before .before .before .before in
+    let w = told .before .before .before .before in
+    absurd (true≢false (ap isWrote (sym (answer w) ∙ ap answerOf (told .refusal .given .1))))
+
+pub written-spec : {M : Type 1} → statement M
+written-spec =
+    tie.close
+    (tie.spec
+    write-requires
+    enum-known-length
+    enum-known-refusal
+    refused-requires
+    same-length
+    returns
+    same-length-2
+    returns-2)
