@@ -1,3 +1,5 @@
 pub mod Interface
 pub mod InterfaceLaws
+pub mod Texts
+pub mod TextLaws
 pub mod Cases

@@ -1,8 +1,8 @@
-// The C interface: coder, read-out, front and decoder for callers in other languages, as include/vedrogne.h
-// declares them.
-// It sees the promises of `calls`, `polar`, `channel`, `settings`, `decoder` and `tally`. It promises that each
-// function returns its call's number, 0 or a refusal's, and leaves in every lent slice what the call's definition
-// says; after a refusal nothing has changed, save a tally that counts it.
+// The C interface: coder, read-out, front, decoder, and the texts of blocks for callers in other languages, as
+// include/vedrogne.h declares them.
+// It sees the promises of `calls`, `polar`, `channel`, `settings`, `decoder`, `tally`, `report_input`, `report_writer`
+// and `report_text`. It promises that each function returns its call's number, 0 or a refusal's, and leaves in every
+// lent slice what the call's definition says; after a refusal nothing has changed, save a tally that counts it.
 // A slice is a pointer and a length in elements, two parameters in C. No function requires anything of the values
 // handed in.
 ghost use mathlib.Core.Path.{_≡_};
@@ -12,6 +12,10 @@ ghost use Rattle.polar.specs.Code.{encodeNumber, encodeBlock, readOutNumber, re
 ghost use Rattle.channel.specs.Front.{frontNumber, frontLlrs};
 ghost use Rattle.settings.specs.Slices.{slices};
 ghost use Rattle.decoder.specs.Decoder.{resultOf};
+ghost use Rattle.calls.specs.LentMemory.{writtenOver};
+ghost use Rattle.report_input.specs.Input.{blockOf};
+ghost use Rattle.report_text.specs.Report.{report};
+ghost use Rattle.report_writer.specs.Writer.{tidyText};
 ghost use Rattle.vedrogne.specs.Interface.{
   settingsLength,
   tallyLength,
@@ -27,10 +31,15 @@ ghost use Rattle.vedrogne.specs.Interface.{
   DecodeCall,
   TalliedCall,
 };
+ghost use Rattle.vedrogne.specs.Texts.{settingsList, readMeaning, ReadCall};
+ghost use Rattle.vedrogne.specs.Texts.{writeCallNumber, reportCallNumber, TextCall};
 use calls::Answer;
 use channel::Channel;
 use decoder::Outcome;
 use polar::Code;
+use report_input::Input;
+use report_text::REPORT_ROOM;
+use report_writer::Written;
 use settings::Settings;
 use tally::Tally;
 
@@ -54,6 +63,19 @@ fn settings_in(settings: &[u32]) -> Settings
         criterion: settings[4],
         operand: settings[5],
     }
+}
+
+// And the one place where settings become a list.
+fn settings_out(values: Settings, settings: &mut [u32])
+    requires { ⌜ settingsLength ≤ length (now settings) ⌝ }
+    ensures { λ _. ⌜ now (settings .exit) ≡ writtenOver (settingsList values) (now (settings .entry)) ⌝ }
+{
+    settings[0] = values.m;
+    settings[1] = values.ceiling;
+    settings[2] = values.scale;
+    settings[3] = values.limit;
+    settings[4] = values.criterion;
+    settings[5] = values.operand;
 }
 
 fn tally_in(tally: &[u32]) -> Tally
@@ -244,4 +266,66 @@ pub extern "C" fn vedrogne_front_erasing(
     ensures { λ _. ⌜ now (llr .exit) ≡ frontLlrs m ceiling Channel.Erasing (now (samples .entry)) (now (llr .entry)) ⌝ }
 {
     calls::number(channel::front(m, ceiling, Channel::Erasing, samples, llr))
+}
+
+#[no_mangle]
+pub extern "C" fn vedrogne_read(
+    text: &[u8],
+    settings: &mut [u32],
+    mask: &mut [u8],
+    llr: &mut [i16],
+) -> u32
+    ensures { λ r. ⌜ ReadCall
+        (readMeaning (now (settings .entry)) (blockOf (now (mask .entry)) (now (llr .entry))) (now (text .entry)))
+        (now (settings .entry)) (now (settings .exit))
+        (blockOf (now (mask .entry)) (now (llr .entry))) (blockOf (now (mask .exit)) (now (llr .exit))) r ⌝ }
+{
+    if settings.len() < SETTINGS_LENGTH {
+        return SHORT_LIST;
+    }
+    match report_input::read(text, mask, llr) {
+        Input::Refused(refusal) => calls::number(Answer::Refused(refusal)),
+        Input::Accepted(values) => {
+            settings_out(values, settings);
+            0
+        }
+    }
+}
+
+#[no_mangle]
+pub extern "C" fn vedrogne_write(
+    settings: &[u32],
+    mask: &[u8],
+    llr: &[i16],
+    text: &mut [u8],
+    written: &mut usize,
+) -> u32
+    ensures { λ r. ⌜ TextCall
+        (writeCallNumber (now (settings .entry)) (blockOf (now (mask .entry)) (now (llr .entry)))
+        (length (now (text .entry))))
+        (tidyText (settingsIn (now (settings .entry))) (blockOf (now (mask .entry)) (now (llr .entry))))
+        (now (text .entry)) (now (text .exit)) (now (written .entry)) (now (written .exit)) r ⌝ }
+{
+    if settings.len() < SETTINGS_LENGTH {
+        return SHORT_LIST;
+    }
+    match report_writer::write(settings_in(settings), mask, llr, text) {
+        Written::Refused(refusal) => calls::number(Answer::Refused(refusal)),
+        Written::Length(length) => {
+            *written = length;
+            0
+        }
+    }
+}
+
+#[no_mangle]
+pub extern "C" fn vedrogne_report(text: &[u8], out: &mut [u8], written: &mut usize) -> u32
+    ensures { λ r. ⌜ TextCall (reportCallNumber (length (now (out .entry)))) (report (now (text .entry)))
+        (now (out .entry)) (now (out .exit)) (now (written .entry)) (now (written .exit)) r ⌝ }
+{
+    if out.len() < REPORT_ROOM {
+        return SHORT_LIST;
+    }
+    *written = report_text::report_into(text, out);
+    0
 }

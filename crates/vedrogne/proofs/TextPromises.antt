@@ -1,0 +1,165 @@
+-- The promises of the functions on texts, from the ways in which each returns.
+use Prim.Native.Nat.{ℕ, zero, suc, _≤_, _<_}
+use mathlib.Core.Path.{_≡_, refl, sym, ap, _∙_}
+use mathlib.Core.Bool.{Bool, true, false, true≢false}
+use mathlib.Core.List.{List}
+use native.Mathlib.Omega.{arith}
+use native.Mathlib.Nat.{zero-add}
+use borrow.Author.Tests.{le-leb, lt-leb}
+use lib.ListN.{length}
+use Rattle.calls.specs.declared.Refusal.{Refusal}
+use Rattle.calls.specs.LentMemory.{writtenOver}
+use Rattle.calls.specs.LentMemoryLaws.{written-sets}
+use Rattle.calls.specs.Numbers.{refusalNumber}
+use Rattle.calls.specs.NumberLaws.{refused-keeps}
+use Rattle.format.specs.Wrote.{Wrote}
+use Rattle.settings.specs.declared.Settings.{Settings}
+use Rattle.report_input.specs.declared.Input.{Input}
+use Rattle.report_input.specs.declared.Input.the-variants as input
+use Rattle.report_input.specs.Input.{
+  Block,
+  Meaning,
+  refused,
+  block,
+  numberIn,
+  meaningIn,
+  ReadAnswer,
+  accepted,
+  rejected,
+  roomOf,
+  blockAfter,
+  InputRead,
+}
+use Rattle.report_input.specs.Input as reader
+use Rattle.report_text.specs.Report.{reportRoom}
+use Rattle.report_writer.specs.declared.Written.{Written}
+use Rattle.report_writer.specs.declared.Written.the-variants as answers
+use Rattle.report_writer.specs.Writer.{WriteAnswer, writeNumber, writeAnswerBy, writeAnswer, tidyText, textAfter}
+use Rattle.report_writer.specs.Writer as writer
+use Rattle.vedrogne.specs.Interface.{settingsIn, settingsListNumber}
+use Rattle.vedrogne.specs.Texts.{settingsList, readMeaning, ReadCall, writeCallNumber, reportCallNumber, TextCall}
+
+-- ---- the reader
+
+abbrev isAccepted : ReadAnswer → Bool
+isAccepted (accepted s) = true
+isAccepted (rejected number) = false
+
+abbrev numberAnswered : ReadAnswer → ℕ
+numberAnswered (accepted s) = 0
+numberAnswered (rejected number) = number
+
+module _ (settings : List ℕ) {before after : Block} {r : Input} where
+  as-refused : (means : Meaning) {refusal : Refusal} → InputRead means before after r → r ≡ input.Refused refusal
+      → ReadCall means settings settings before after (refusalNumber refusal)
+  as-refused (refused number) read e = record {
+    number-is = ap numberAnswered (sym (ap reader.answerOf e) ∙ read .answer);
+    settings-is = refl;
+    block-is = read .after-is;
+  }
+  as-refused (block s b) read e =
+      absurd (true≢false (ap isAccepted (sym (read .answer) ∙ ap reader.answerOf e)))
+
+  as-accepted : (means : Meaning) {s : Settings} {settings′ : List ℕ} → InputRead means before after r
+      → r ≡ input.Accepted s → settings′ ≡ writtenOver (settingsList s) settings
+      → ReadCall means settings settings′ before after 0
+  as-accepted (refused number) read e stored =
+      absurd (true≢false (ap isAccepted (sym (ap reader.answerOf e) ∙ read .answer)))
+  as-accepted (block s′ b) {s} read e stored = record {
+    number-is = refl;
+    settings-is =
+        stored
+        ∙ ap (λ (x : Settings). writtenOver (settingsList x) settings)
+        (ap (settingsAnswered s) (sym (ap reader.answerOf e) ∙ read .answer));
+    block-is = read .after-is;
+  }
+    where
+      settingsAnswered : Settings → ReadAnswer → Settings
+      settingsAnswered d (accepted x) = x
+      settingsAnswered d (rejected number) = d
+
+  -- the three ways of `vedrogne_read`
+  module _ (text : List ℕ) (long : settingsListNumber settings ≡ 0)
+      (read : InputRead (meaningIn (roomOf before) text) before after r) where
+    -- a list of settings that is long enough leaves the text its meaning
+    listed : readMeaning settings before text ≡ meaningIn (roomOf before) text
+    listed = rw long
+
+    pub read-refused : {refusal : Refusal} → r ≡ input.Refused refusal
+        → ReadCall (readMeaning settings before text) settings settings before after (refusalNumber refusal)
+    read-refused e = rw listed (as-refused (meaningIn (roomOf before) text) read e)
+
+    pub read-accepted : {s : Settings} {settings′ : List ℕ} → r ≡ input.Accepted s
+        → settings′ ≡ writtenOver (settingsList s) settings
+        → ReadCall (readMeaning settings before text) settings settings′ before after 0
+    read-accepted e stored = rw listed (as-accepted (meaningIn (roomOf before) text) read e stored)
+
+pub read-short : (text settings : List ℕ) (before : Block) {number : ℕ} → settingsListNumber settings ≡ suc number
+    → ReadCall (readMeaning settings before text) settings settings before before (suc number)
+read-short text settings before h = record { number-is = rw h; settings-is = rw h; block-is = rw h }
+
+-- ---- a text that is written
+
+pub text-refused : {number refusal : ℕ} {text old : List ℕ} {written : ℕ} → number ≡ suc refusal
+    → TextCall number text old old written written (suc refusal)
+text-refused h = record { number-is = sym h; text-is = rw h; written-is = rw h }
+
+text-done : {number : ℕ} {text old new : List ℕ} {written written′ : ℕ} → number ≡ 0
+    → new ≡ writtenOver text old → written′ ≡ length text → TextCall number text old new written written′ 0
+text-done h e f = record { number-is = sym h; text-is = e ∙ rw h; written-is = f ∙ rw h }
+
+abbrev isWrote : WriteAnswer → Bool
+isWrote (writer.wrote n) = true
+isWrote (writer.rejected number) = false
+
+-- an answer is a number or a length
+refused-by : (n text : ℕ) {k : ℕ} → writer.rejected k ≡ writeAnswerBy n text → n ≡ k
+refused-by zero text e = absurd (true≢false (ap isWrote (sym e)))
+refused-by (suc n) text e = cc
+
+written-by : (n text : ℕ) {k : ℕ} → writer.wrote k ≡ writeAnswerBy n text → (n ≡ 0) × (k ≡ text)
+written-by zero text e = (refl, cc)
+written-by (suc n) text e = absurd (true≢false (ap isWrote e))
+
+-- the two ways of `vedrogne_write` behind the list of settings
+module _ (settings : List ℕ) (b : Block) (old : List ℕ) (long : settingsListNumber settings ≡ 0) where
+  abbrev s : Settings
+  s = settingsIn settings
+
+  abbrev text : List ℕ
+  text = tidyText s b
+
+  abbrev number : ℕ
+  number = writeNumber s b (length old)
+
+  tested : writeCallNumber settings b (length old) ≡ number
+  tested = rw long
+
+  module _ {new : List ℕ} (r : Written) {held : ℕ} (answer : writer.answerOf r ≡ writeAnswer s b old)
+      (after : new ≡ textAfter s b old) where
+    pub write-refused : {refusal : Refusal} → r ≡ answers.Refused refusal
+        → TextCall (writeCallNumber settings b (length old)) text old new held held (refusalNumber refusal)
+    write-refused {refusal} e =
+        let n = refused-by number (length text) (sym (ap writer.answerOf e) ∙ answer) in
+        record {
+          number-is = sym (tested ∙ n);
+          text-is = after ∙ rw tested;
+          written-is = rw (tested, n) (sym (refused-keeps refusal _ held));
+        }
+
+    pub write-done : {k : ℕ} → r ≡ answers.Length k
+        → TextCall (writeCallNumber settings b (length old)) text old new held k 0
+    write-done e =
+        let n = written-by number (length text) (sym (ap writer.answerOf e) ∙ answer) in
+        text-done (tested ∙ n .0) (after ∙ rw (n .0)) (n .1)
+
+-- the way of `vedrogne_report` where there is room
+pub report-done : {text old new : List ℕ} {written k : ℕ} → reportRoom ≤ length old → Wrote old 0 text new k
+    → k ≤ reportRoom → TextCall (reportCallNumber (length old)) text old new written k 0
+report-done {text} {old} room w short =
+    text-done (rw (le-leb reportRoom (length old) room))
+    (w .new-is ∙ written-sets text old (omega (arith, w .next-is)))
+    (w .next-is ∙ zero-add (length text))
+
+pub report-short : (room : ℕ) → room < reportRoom → reportCallNumber room ≡ 7
+report-short room h = rw (lt-leb reportRoom room h)
