@@ -1,7 +1,7 @@
 -- Laws of the writer's room: how long the text of an accepted block is at most; and what the writer answers and leaves,
 -- by its number.
 use Prim.Native.Nat.{ℕ, zero, suc, _+_, _-_, _^_, _≤_, _<_}
-use mathlib.Core.Path.{_≡_, refl, sym, ap}
+use mathlib.Core.Path.{_≡_, refl, sym, ap, _∙_}
 use mathlib.Core.Bool.{true}
 use mathlib.Core.List.{List, [], _∷_, _++_}
 use native.Mathlib.Nat.{suc-add}
@@ -13,7 +13,7 @@ use lib.Pow.{pow-mono}
 use Rattle.calls.specs.declared.Refusal.{Refusal}
 use Rattle.calls.specs.Bounds.{mostPositions, largestCeiling}
 use Rattle.calls.specs.EveryLaws.{every-at}
-use Rattle.calls.specs.LentMemory.{writtenOver}
+use Rattle.calls.specs.LentMemory.{writtenOver, unlessRefused}
 use Rattle.calls.specs.Numbers.{refusalNumber, firstRefusal}
 use Rattle.calls.specs.NumberLaws.{between-passed, refused-first, refused-keeps}
 use Rattle.polar.specs.Mask.{isMaskByte}
@@ -172,6 +172,10 @@ module _ (s : Settings) (b : Block) (none : blockNumber s b ≡ 0) where
 
 -- ---- the answer, and the slice afterwards
 
+-- the slice, by the number
+abbrev slice : Settings → Block → List ℕ → ℕ → List ℕ
+slice s b old number = unlessRefused number (writtenOver (tidyText s b) old) old
+
 -- a refusal for one of the decoder's numbers
 module _ (s : Settings) (b : Block) (old : List ℕ) (r : Refusal) (e : refusalNumber r ≡ blockNumber s b) where
   number-first : writeNumber s b (length old) ≡ refusalNumber r
@@ -185,7 +189,7 @@ module _ (s : Settings) (b : Block) (old : List ℕ) (r : Refusal) (e : refusalN
       positive (suc n) k h = refl
 
   pub refused-text : old ≡ textAfter s b old
-  refused-text = rw number-first (sym (refused-keeps r _ old))
+  refused-text = sym (refused-keeps r _ old) ∙ ap (slice s b old) (sym number-first)
 
 module _ (s : Settings) (b : Block) (old : List ℕ) (e : blockNumber s b ≡ 0) where
   -- 7, for a slice that is too short
@@ -196,7 +200,7 @@ module _ (s : Settings) (b : Block) (old : List ℕ) (e : blockNumber s b ≡ 0)
   short-answer h = rw (short-number h)
 
   pub short-text : length old < length (tidyText s b) → old ≡ textAfter s b old
-  short-text h = rw (short-number h)
+  short-text h = ap (slice s b old) (sym (short-number h))
 
   -- the text, where it has room
   written-number : length (tidyText s b) ≤ length old → writeNumber s b (length old) ≡ 0
@@ -206,4 +210,4 @@ module _ (s : Settings) (b : Block) (old : List ℕ) (e : blockNumber s b ≡ 0)
   written-answer h = rw (written-number h)
 
   pub written-text : length (tidyText s b) ≤ length old → writtenOver (tidyText s b) old ≡ textAfter s b old
-  written-text h = rw (written-number h)
+  written-text h = ap (slice s b old) (sym (written-number h))

@@ -1,7 +1,7 @@
 // The writer of the report's input: settings, mask and LLRs become the one text that they are written as.
-// It sees `settings` for every test of the decoder, the names and definitions of `report_input`, and `format`. It promises the
-// text that request 2026-01 gives, from the first byte of the lent slice on, its old contents behind, and the text's
-// length; or the number of a refusal, where nothing is written.
+// It sees `settings` for every test of the decoder, the names and definitions of `report_input`, and `format`. It
+// promises the text that request 2026-01 gives, from the first byte of the lent slice on, its old contents behind, and
+// the text's length; or the number of a refusal, where nothing is written.
 ghost use mathlib.Core.Path.{_≡_};
 ghost use mathlib.Core.List.{[], _∷_};
 ghost use Prim.Native.Nat.{_+_, _≤_};
@@ -114,7 +114,8 @@ pub fn write(settings: Settings, mask: &[u8], llr: &[i16], text: &mut [u8]) -> W
         Answer::Done => {
             let mut own = [0u8; LONGEST_TIDY_TEXT];
             let length = compose(&mut own, settings, mask, llr);
-            if text.len() < length {
+            let room = text.len();
+            if room < length {
                 return Written::Refused(Refusal::ShortSlice);
             }
             format::copy(text, 0, &own[..length]);

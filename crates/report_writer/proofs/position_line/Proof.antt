@@ -1,8 +1,10 @@
 -- `position_line` meets its contract.
-use mathlib.Core.Path.{_≡_, subst}
+use Prim.Native.Nat.{_+_, _≤_}
+use mathlib.Core.Path.{_≡_, sym, subst}
 use mathlib.Core.List.{List, [], _∷_}
 use native.Mathlib.Omega.{arith}
 use lib.IntN.{ℤ, pos}
+use lib.ListN.{length}
 use mir.Syntax.{w16, w32}
 use mir.Val.{toZ, ofZ}
 use Rattle.format.specs.Decimal.{line}
@@ -39,7 +41,9 @@ slice-aggregate-line : tie.Need-slice-aggregate-line
 slice-aggregate-line c = search needs
 
 line-requires : tie.Need-line-requires
-line-requires c κs = rw (values (c .before .before .before)) (c .before .before .before .pre .1)
+line-requires c κs =
+    let s = c .before .before .before in
+    subst (λ (zs : List ℤ). s .args .at + length (line zs) ≤ length (s .args .out .now)) (sym (values s)) (s .pre .1)
 
 same-length : tie.Need-same-length
 same-length c = search needs

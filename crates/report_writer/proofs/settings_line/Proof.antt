@@ -1,7 +1,9 @@
 -- `settings_line` meets its contract.
-use mathlib.Core.Path.{_≡_, subst}
+use Prim.Native.Nat.{_+_, _≤_}
+use mathlib.Core.Path.{_≡_, sym, subst}
 use mathlib.Core.List.{List, [], _∷_}
 use lib.IntN.{ℤ}
+use lib.ListN.{length}
 use mir.Syntax.{w32}
 use mir.Val.{toZ}
 use Rattle.format.specs.Decimal.{line}
@@ -61,7 +63,7 @@ slice-aggregate-line c = search needs
 line-requires : tie.Need-line-requires
 line-requires c κs =
     let s = c .before .before .before .before .before .before .before .before .before in
-    rw (values s) (s .pre .1)
+    subst (λ (zs : List ℤ). s .args .at + length (line zs) ≤ length (s .args .out .now)) (sym (values s)) (s .pre .1)
 
 same-length : tie.Need-same-length
 same-length c = search needs
