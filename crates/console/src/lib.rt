@@ -1,11 +1,76 @@
-// What the programs print with: texts, whole numbers, slices, and the number of an answer, to standard output.
-// It sees `calls`, `format` for the size of a number, and C's write. It promises to end; what it prints is compared
-// with the stored output of the programs.
+// What the programs read and print with: a text from standard input; texts, whole numbers, slices and the number of an
+// answer to standard output.
+// It sees `calls`, `format` for the size of a number, and C's read and write.
+// Proved: every function ends, and stays within its memory; a read that comes later leaves the bytes of the earlier
+// ones; `read_text` counts bytes of its slice.
+// By inspection and test: that the bytes in memory are those of standard input, in their order and to its end (of the
+// bytes that C's read brings its contract says nothing), that what is handed to C's write arrives, and the lines on
+// standard error. The tests compare what the programs write with stored outputs.
 ghost use mathlib.Core.Path.{_≡_};
+ghost use Prim.Native.Nat.{_-_, _≤_};
 ghost use lib.IntN.{natAbs};
+ghost use lib.ListN.{length, take};
+ghost use Rattle.io.specs.Counts.{Counts};
+ghost use Rattle.console.specs.Reads.{GotAtMost};
 use calls::Answer;
+use libc::STDERR_FILENO;
+use libc::STDIN_FILENO;
 use libc::STDOUT_FILENO;
 
+// What one read gives; no bytes at the end of the input.
+pub enum Got {
+    Bytes(usize),
+    Failed,
+}
+
+// One read behind the first n bytes, which it leaves as they were.
+fn read_behind(text: &mut [u8], n: usize) -> Got
+    requires { ⌜ n ≤ length (now text) ⌝ }
+    ensures { λ r. ⌜ GotAtMost (length (now (text .entry)) - n) r ⌝ }
+    ensures { λ _. ⌜ take n (now (text .exit)) ≡ take n (now (text .entry)) ⌝ }
+{
+    let got = libc::read(STDIN_FILENO, &mut text[n..]);
+    if got < 0 {
+        Got::Failed
+    } else {
+        Got::Bytes(got as usize)
+    }
+}
+
+// On standard error: the program's name, and what went wrong.
+fn complain(program: &[u8], what: &[u8]) {
+    io::write_all(STDERR_FILENO, program);
+    io::write_all(STDERR_FILENO, what);
+}
+
+// The text to its end, or as much of it as the slice has room for, and how many bytes that is. A read that fails leaves
+// no text.
+pub fn read_text(program: &[u8], text: &mut [u8]) -> usize
+    ensures { λ r. ⌜ Counts r (now (text .exit)) ⌝ }
+{
+    let mut n = 0;
+    while n < text.len() {
+        let got = read_behind(text, n);
+        let Got::Bytes(more) = got else {
+            complain(program, b": standard input can't be read\n");
+            return 0;
+        };
+        if more == 0 {
+            return n;
+        }
+        n += more;
+    }
+    n
+}
+
+// The whole outcome of a program.
+pub fn write_text(program: &[u8], bytes: &[u8]) {
+    if !io::write_all(STDOUT_FILENO, bytes) {
+        complain(program, b": standard output can't be written\n");
+    }
+}
+
+// A piece of the output.
 pub fn text(bytes: &[u8]) {
     io::write_all(STDOUT_FILENO, bytes);
 }

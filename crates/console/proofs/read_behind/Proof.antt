@@ -15,10 +15,10 @@ use mir.Val.{toZ, ofZ}
 use mir.Facts.{toZ-ofZ}
 use Rattle.libc.specs.Io.{Moved}
 use borrow.Author.Needs.{needs}
-use Rattle.report_program.proofs.read_behind.Statement.{statement}
-use Rattle.report_program.proofs.read_behind.Tie as tie
-use Rattle.report_program.proofs.read_behind.Reads as reads
-use Rattle.report_program.proofs.read_behind.Lts as lts
+use Rattle.console.proofs.read_behind.Statement.{statement}
+use Rattle.console.proofs.read_behind.Tie as tie
+use Rattle.console.proofs.read_behind.Reads as reads
+use Rattle.console.proofs.read_behind.Lts as lts
 use Rattle.libc.proofs.read.Reads as read-reads
 
 moved-size : (most : ℕ) (z : ℤ) → Moved most z → ltZ z (pos 0) ≡ false → T (nonNeg z) × (natAbs z ≤ most)

@@ -5,26 +5,26 @@ use native.Mathlib.Omega.{arith}
 use borrow.Author.Needs.{needs}
 use lib.ListN.{length}
 use lib.Seq.{length-take-le}
-use Rattle.report_program.specs.Reads.{GotAtMost}
-use Rattle.report_program.proofs.read_text.Statement.{statement}
-use Rattle.report_program.proofs.read_text.Tie as tie
-use Rattle.report_program.proofs.read_text.Reads as reads
-use Rattle.report_program.proofs.read_text.Lts as lts
-use Rattle.report_program.proofs.complain.Reads as complain-reads
-use Rattle.report_program.proofs.read_behind.Reads as read-behind-reads
+use Rattle.console.specs.Reads.{GotAtMost}
+use Rattle.console.proofs.read_text.Statement.{statement}
+use Rattle.console.proofs.read_text.Tie as tie
+use Rattle.console.proofs.read_text.Reads as reads
+use Rattle.console.proofs.read_text.Lts as lts
+use Rattle.console.proofs.complain.Reads as complain-reads
+use Rattle.console.proofs.read_behind.Reads as read-behind-reads
 
 abbrev Inv-loop : tie.InvT-loop
-Inv-loop text₀ n₀ t5 text n = (n ≤ length text) × (length text ≡ length text₀)
+Inv-loop program text₀ n₀ t6 text n = (n ≤ length text) × (length text ≡ length text₀)
 
 abbrev μ-loop : tie.MeasureT-loop
-μ-loop text₀ n₀ t5 text n = length text₀ - n
+μ-loop program text₀ n₀ t6 text n = length text₀ - n
 
 -- a read keeps the slice's length, and brings at most as many bytes as there is room for
 module _ (c : tie.After-text Inv-loop μ-loop) where
   abbrev turn : tie.At-loop Inv-loop μ-loop
   turn = c .before .before .before .before
 
-  kept : length (c .before .read-behind .last .0) ≡ length (turn .before .before .args .text .now)
+  kept : length (c .before .read-behind .last .0) ≡ length (turn .before .before .before .args .text .now)
   kept = c .text .given ∙ turn .loop .inv .1
 
 module _ (c : tie.After-known-told Inv-loop μ-loop) where
