@@ -1,16 +1,15 @@
 -- Laws of the output: that its room suffices, and what the decoder leaves for an accepted block.
-use Prim.Native.Nat.{ℕ, zero, suc, _+_, _-_, _*_, _^_, _≤_, _<_}
-use mathlib.Core.Path.{_≡_, refl, sym, ap, ap₂, _∙_, subst}
+use Prim.Native.Nat.{ℕ, _+_, _-_, _*_, _^_, _≤_, _<_}
+use mathlib.Core.Path.{_≡_, sym, ap, _∙_, subst}
 use mathlib.Core.Bool.{Bool, true, false, true≢false}
 use mathlib.Core.List.{List, [], _∷_, _++_}
-use native.Mathlib.Numerals.{add-one}
 use native.Mathlib.Omega.{arith}
 use lib.Dec.{lit≤}
 use lib.IntN.{ℤ, pos}
 use lib.ListN.{length, getD, length-append}
 use lib.Pow.{pow-mono}
 use Rattle.calls.specs.declared.Refusal.{Refusal}
-use Rattle.calls.specs.Bounds.{largestM, largestCeiling, mostPositions, mostWorkspace}
+use Rattle.calls.specs.Bounds.{largestM, largestCeiling, mostPositions}
 use Rattle.message.specs.MessageLaws.{add-size}
 use Rattle.criteria.specs.CriteriaLaws.{mark-le}
 use Rattle.sweeps.specs.Workspace.{L, R}

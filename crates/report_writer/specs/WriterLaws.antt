@@ -1,46 +1,24 @@
 -- Laws of the tidy text: it writes the first N elements of a block and no other, reading it gives the settings and the
 -- block back, and it is the one text of its settings and block.
-use Prim.Native.Nat.{ℕ, zero, suc, _+_, _*_, _^_, _<_, _≤_, min}
+use Prim.Native.Nat.{ℕ, zero, suc, _+_, _^_, _<_, _≤_, min}
 use mathlib.Core.Path.{_≡_, refl, sym, ap, ap₂, _∙_}
 use mathlib.Core.Bool.{true}
 use mathlib.Core.List.{List, [], _∷_, _++_, append-assoc}
 use native.Mathlib.Omega.{arith}
 use lib.Dec.{leb, leb·zero, leb·suc-suc}
 use lib.IntN.{ℤ, pos, negsuc, negℤ, natAbs}
-use lib.ListN.{length, getD, drop, take, length-append}
-use lib.Pow.{pow-mono}
+use lib.ListN.{length, getD, drop, take}
 use lib.Seq.{drop-cons, getD-take, take-all, length-take-le}
-use borrow.Author.Tests.{leb-true, eqb-true, le-leb, eq-eqb}
-use Rattle.calls.specs.Bounds.{largestM, largestCeiling, mostPositions}
-use Rattle.calls.specs.EveryLaws.{every-at, every-same}
+use borrow.Author.Tests.{le-leb, eq-eqb}
+use Rattle.calls.specs.Bounds.{largestM}
+use Rattle.calls.specs.EveryLaws.{every-same}
 use Rattle.calls.specs.Numbers.{between}
-use Rattle.calls.specs.NumberLaws.{between-passed}
 use Rattle.format.specs.Decimal.{line}
-use Rattle.format.specs.DecimalLaws.{FourDigits, line-length}
 use Rattle.format.specs.Texts.{positionLines}
-use Rattle.format.specs.TextLaws.{position-lines-same, position-lines-length}
+use Rattle.format.specs.TextLaws.{position-lines-same}
 use Rattle.polar.specs.Code.{informationCount}
 use Rattle.polar.specs.Mask.{maskAccepted, isMaskByte}
-use Rattle.report_input.specs.Input.{
-  longestText,
-  outsideMask,
-  outsideLlr,
-  settingNames,
-  positionNames,
-  llrValue,
-  Block,
-  blockOf,
-  head,
-  readPosition,
-  readPositions,
-  block,
-  blockNumber,
-  largestLengths,
-  heldIn,
-  meaningIn,
-  largestRoom,
-  meaning,
-}
+use Rattle.report_input.specs.Input.{longestText, outsideMask, outsideLlr, settingNames, positionNames, llrValue, Block, blockOf, head, readPosition, readPositions, block, blockNumber, heldIn, meaningIn, largestRoom, meaning}
 use Rattle.report_input.specs.InputLaws.{
   read-position-found,
   head-found,
@@ -65,8 +43,7 @@ use Rattle.report_writer.specs.RoomLaws.{
 use Rattle.report_writer.specs.Writer.{valuesOf, positionValues, tidyText}
 use Rattle.scan.specs.Reading.{found}
 use Rattle.settings.specs.declared.Settings.{Settings}
-use Rattle.settings.specs.Settings.{operandFits, withinCeiling}
-use Rattle.settings.specs.SettingsLaws.{Accepted, accepted}
+use Rattle.settings.specs.Settings.{withinCeiling}
 
 -- ---- the first N elements of a block: nothing else is tested or written
 

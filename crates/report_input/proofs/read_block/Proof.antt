@@ -6,7 +6,6 @@ use mathlib.Core.List.{List}
 use native.Mathlib.Omega.{arith}
 use borrow.Author.Tests.{not-true, not-false}
 use lib.ListN.{drop}
-use lib.Pow.{pow-mono}
 use Rattle.calls.specs.Bounds.{largestM}
 use Rattle.calls.specs.declared.Refusal.the-variants.{BlockLength}
 use Rattle.calls.specs.Numbers.{numberOf, between}

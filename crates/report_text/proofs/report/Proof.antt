@@ -4,7 +4,6 @@ use Rattle.format.specs.WroteLaws.{wrote-within}
 use borrow.Author.Needs.{needs}
 use Rattle.report_text.proofs.report.Statement.{statement}
 use Rattle.report_text.proofs.report.Tie as tie
-use Rattle.report_text.proofs.report_into.Reads as report-into-reads
 
 report-into-requires : tie.Need-report-into-requires
 report-into-requires c κs = search needs
