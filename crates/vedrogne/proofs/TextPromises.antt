@@ -8,7 +8,7 @@ use native.Mathlib.Nat.{zero-add}
 use borrow.Author.Tests.{le-leb, lt-leb}
 use lib.ListN.{length}
 use Rattle.calls.specs.declared.Refusal.{Refusal}
-use Rattle.calls.specs.LentMemory.{writtenOver}
+use Rattle.calls.specs.LentMemory.{writtenOver, unlessRefused}
 use Rattle.calls.specs.LentMemoryLaws.{written-sets}
 use Rattle.calls.specs.Numbers.{refusalNumber}
 use Rattle.calls.specs.NumberLaws.{refused-keeps}
@@ -87,13 +87,29 @@ read-short text settings before h = record { number-is = rw h; settings-is = rw 
 
 -- ---- a text that is written
 
-pub text-refused : {number refusal : ℕ} {text old : List ℕ} {written : ℕ} → number ≡ suc refusal
-    → TextCall number text old old written written (suc refusal)
-text-refused h = record { number-is = sym h; text-is = rw h; written-is = rw h }
+-- what is promised, by the number
+module _ (text old : List ℕ) (held : ℕ) where
+  abbrev slice : ℕ → List ℕ
+  slice number = unlessRefused number (writtenOver text old) old
 
-text-done : {number : ℕ} {text old new : List ℕ} {written written′ : ℕ} → number ≡ 0
-    → new ≡ writtenOver text old → written′ ≡ length text → TextCall number text old new written written′ 0
-text-done h e f = record { number-is = sym h; text-is = e ∙ rw h; written-is = f ∙ rw h }
+  abbrev count : ℕ → ℕ
+  count number = unlessRefused number (length text) held
+
+pub text-refused : {number refusal : ℕ} {text old : List ℕ} {held : ℕ} → number ≡ suc refusal
+    → TextCall number text old old held held (suc refusal)
+text-refused {text = text} {old} {held} h = record {
+  number-is = sym h;
+  text-is = ap (slice text old held) (sym h);
+  written-is = ap (count text old held) (sym h);
+}
+
+text-done : {number : ℕ} {text old new : List ℕ} {held length′ : ℕ} → number ≡ 0
+    → new ≡ writtenOver text old → length′ ≡ length text → TextCall number text old new held length′ 0
+text-done {text = text} {old} {held = held} h e f = record {
+  number-is = sym h;
+  text-is = e ∙ ap (slice text old held) (sym h);
+  written-is = f ∙ ap (count text old held) (sym h);
+}
 
 abbrev isWrote : WriteAnswer → Bool
 isWrote (writer.wrote n) = true
