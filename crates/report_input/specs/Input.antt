@@ -104,6 +104,10 @@ pub record Block : Type 0 where
 abbrev pub blockOf : List ℕ → List ℤ → Block
 blockOf mask llr = record { mask = mask; llr = llr }
 
+-- its first n elements
+abbrev pub firstOf : ℕ → Block → Block
+firstOf n b = blockOf (take n (b .mask)) (take n (b .llr))
+
 abbrev pub above : PositionInput → Block → Block
 above r b = blockOf (r .frozen ∷ b .mask) (r .llr ∷ b .llr)
 

@@ -2,7 +2,7 @@
 -- the memory that they are lent.
 use Prim.Native.Nat.{ℕ, zero, suc, _≤_}
 use mathlib.Core.List.{List, []}
-use lib.ListN.{length, drop, take}
+use lib.ListN.{length, drop}
 use Rattle.settings.specs.declared.Settings.{Settings}
 use Rattle.scan.specs.Reading.{Reading, found, malformed, ifFound}
 use Rattle.report_input.specs.Input.{
@@ -38,10 +38,6 @@ PositionWithin t (position.Found f l next) = next ≤ length t
 PositionWithin t position.Malformed = Unit
 
 -- ---- lent memory
-
--- the first n elements
-abbrev pub firstOf : ℕ → Block → Block
-firstOf n b = blockOf (take n (b .mask)) (take n (b .llr))
 
 -- the mask values and LLRs of n lines from position p on that are stored: all of them, or those before the first fault
 unfoldable pub positionsStored : ℕ → ℕ → List ℕ → Block

@@ -24,8 +24,8 @@ use Rattle.report_input.specs.Input.{
   rejected,
   answerOf,
   InputRead,
+  firstOf,
 }
-use Rattle.report_input.specs.Private.{firstOf}
 use Rattle.report_input.specs.InputLaws.{Fit, Long, Means, meaning-fit}
 use Rattle.report_input.specs.declared.Input.{Input}
 use Rattle.report_input.specs.declared.Input.the-variants.{Accepted, Refused}

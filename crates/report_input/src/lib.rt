@@ -9,10 +9,11 @@ ghost use Rattle.calls.specs.Numbers.{numberOf, between};
 ghost use Rattle.scan.specs.Answers.{readTo, NextWithin};
 ghost use Rattle.scan.specs.Reading.{found};
 ghost use Rattle.report_input.specs.Input.{valueAt, unsigned, maskValue, llrValue, settingsOf, head};
-ghost use Rattle.report_input.specs.Input.{readPosition, readPositions, blockOf, blockOver};
-ghost use Rattle.report_input.specs.Input.{numberIn, tested, sized, meaningIn, roomOf, InputRead};
+ghost use Rattle.report_input.specs.Input.{readPosition, readPositions, blockOf, firstOf, blockOver};
+ghost use Rattle.report_input.specs.Input.{blockNumber, numberIn, tested, sized, meaningIn};
+ghost use Rattle.report_input.specs.Input.{roomOf, InputRead};
 ghost use Rattle.report_input.specs.Private.{headRead, HeadWithin, positionRead, PositionWithin};
-ghost use Rattle.report_input.specs.Private.{firstOf, positionsStored};
+ghost use Rattle.report_input.specs.Private.{positionsStored};
 use calls::Answer;
 use calls::LARGEST_M;
 use calls::MOST_POSITIONS;
@@ -182,6 +183,20 @@ fn read_positions(text: &[u8], at: usize, n: usize, mask: &mut [u8], llr: &mut [
     Next::At(next)
 }
 
+// The decoder's tests of a block, with room for one of any length in what only the decoder writes.
+pub fn block_refusal(settings: Settings, mask: &[u8], llr: &[i16]) -> Answer
+    ensures { λ r. ⌜ numberOf r ≡ blockNumber settings (blockOf (now (mask .entry)) (now (llr .entry))) ⌝ }
+{
+    let lengths = Lengths {
+        soft: MOST_POSITIONS,
+        mark: MOST_POSITIONS,
+        coded_soft: MOST_POSITIONS,
+        coded_mark: MOST_POSITIONS,
+        work: MOST_WORKSPACE,
+    };
+    settings::refusal(settings, mask, llr, lengths)
+}
+
 fn smaller(a: usize, b: usize) -> usize
     ensures { λ r. ⌜ r ≡ min a b ⌝ }
 {
@@ -206,18 +221,11 @@ fn refusal(text: &[u8], at: usize, settings: Settings, room: Room) -> Answer
     if end < text.len() {
         return Answer::Refused(Refusal::MalformedText);
     }
-    let lengths = Lengths {
-        soft: MOST_POSITIONS,
-        mark: MOST_POSITIONS,
-        coded_soft: MOST_POSITIONS,
-        coded_mark: MOST_POSITIONS,
-        work: MOST_WORKSPACE,
-    };
     let mask_room = room.mask;
     let llr_room = room.llr;
     let mask_held = smaller(n, mask_room);
     let llr_held = smaller(n, llr_room);
-    settings::refusal(settings, &mask[..mask_held], &llr[..llr_held], lengths)
+    block_refusal(settings, &mask[..mask_held], &llr[..llr_held])
 }
 
 // 1: m from 1 to 10.

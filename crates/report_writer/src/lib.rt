@@ -1,5 +1,5 @@
 // The writer of the report's input: settings, mask and LLRs become the one text that they are written as.
-// It sees `settings` for every test of the decoder, the names and definitions of `report_input`, and `format`. It
+// It sees `report_input` for the decoder's tests and for the names that the reader compares, and `format`. It
 // promises the text that request 2026-01 gives, from the first byte of the lent slice on, its old contents behind, and
 // the text's length; or the number of a refusal, where nothing is written.
 ghost use mathlib.Core.Path.{_≡_};
@@ -8,7 +8,6 @@ ghost use Prim.Native.Nat.{_+_, _≤_};
 ghost use lib.IntN.{pos};
 ghost use lib.ListN.{length};
 ghost use Rattle.calls.specs.Bounds.{mostPositions};
-ghost use Rattle.calls.specs.Numbers.{numberOf};
 ghost use Rattle.format.specs.Decimal.{line};
 ghost use Rattle.format.specs.DecimalLaws.{FourDigits};
 ghost use Rattle.format.specs.Texts.{positionLines};
@@ -17,10 +16,7 @@ ghost use Rattle.report_input.specs.Input.{blockOf, blockNumber};
 ghost use Rattle.report_writer.specs.Writer.{valuesOf, positionValues, tidyText, longestTidyText};
 ghost use Rattle.report_writer.specs.Writer.{answerOf, writeAnswer, textAfter};
 use calls::Answer;
-use calls::MOST_POSITIONS;
-use calls::MOST_WORKSPACE;
 use calls::Refusal;
-use settings::Lengths;
 use settings::Settings;
 
 // The most bytes of a text that is written.
@@ -30,20 +26,6 @@ pub const LONGEST_TIDY_TEXT: usize = 12284;
 pub enum Written {
     Length(usize),
     Refused(Refusal),
-}
-
-// The decoder's tests of what is handed in, where nothing that the decoder writes is too short.
-fn refusal(settings: Settings, mask: &[u8], llr: &[i16]) -> Answer
-    ensures { λ r. ⌜ numberOf r ≡ blockNumber settings (blockOf (now (mask .entry)) (now (llr .entry))) ⌝ }
-{
-    let lengths = Lengths {
-        soft: MOST_POSITIONS,
-        mark: MOST_POSITIONS,
-        coded_soft: MOST_POSITIONS,
-        coded_mark: MOST_POSITIONS,
-        work: MOST_WORKSPACE,
-    };
-    settings::refusal(settings, mask, llr, lengths)
 }
 
 // The line of the settings, in the order of their names.
@@ -109,7 +91,7 @@ pub fn write(settings: Settings, mask: &[u8], llr: &[i16], text: &mut [u8]) -> W
     ensures { λ _. ⌜ now (text .exit)
         ≡ textAfter settings (blockOf (now (mask .entry)) (now (llr .entry))) (now (text .entry)) ⌝ }
 {
-    match refusal(settings, mask, llr) {
+    match report_input::block_refusal(settings, mask, llr) {
         Answer::Refused(refusal) => Written::Refused(refusal),
         Answer::Done => {
             let mut own = [0u8; LONGEST_TIDY_TEXT];

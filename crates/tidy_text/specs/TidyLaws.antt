@@ -1,18 +1,18 @@
 -- Laws of the tidy form: it means what its text means and has its report, its own tidy form is itself, and two texts
 -- have the same exactly where they mean the same.
-use Prim.Native.Nat.{ℕ}
+use Prim.Native.Nat.{ℕ, _^_}
 use mathlib.Core.Path.{_≡_, sym, ap, _∙_}
 use mathlib.Core.List.{List, [], _∷_}
 use native.Mathlib.Omega.{arith}
 use lib.ListN.{drop}
 use Rattle.format.specs.Decimal.{line, shown}
 use Rattle.format.specs.Texts.{refusalText}
-use Rattle.report_input.specs.Input.{Block, Meaning, refused, block, meaning}
+use Rattle.report_input.specs.Input.{Block, firstOf, Meaning, refused, block, blockNumber, meaning}
 use Rattle.report_input.specs.InputLaws.{Means, meaning-fit}
-use Rattle.report_text.specs.Report.{textOf, report}
+use Rattle.report_text.specs.Report.{blockText, workspace, textOf, report}
 use Rattle.report_writer.specs.ReadBackLaws.{decimal-same}
 use Rattle.report_writer.specs.Writer.{tidyText}
-use Rattle.report_writer.specs.WriterLaws.{fit-means}
+use Rattle.report_writer.specs.WriterLaws.{read-written, fit-means}
 use Rattle.settings.specs.declared.Settings.{Settings}
 use Rattle.scan.specs.Reading.{first}
 use Rattle.tidy_text.specs.Tidy.{tidyOf, tidy}
@@ -37,6 +37,12 @@ module _ (t : List ℕ) {s : Settings} {b : Block} (accepted : meaning t ≡ blo
   pub tidy-report : report (tidy t) ≡ report t
   unfolding report
   tidy-report = ap textOf tidy-same-meaning
+
+-- the report accepts what the writer gives: it is the outcome of the first N elements of the block
+pub written-report : (s : Settings) (b : Block) → blockNumber s b ≡ 0
+    → report (tidyText s b) ≡ blockText s (firstOf (2 ^ s .m) b) workspace
+unfolding report
+written-report s b none = ap textOf (read-written s b none)
 
 -- ---- two texts
 

@@ -1,7 +1,9 @@
 -- Lists at their boundary lengths, and answers as numbers. Computed facts.
 use mathlib.Core.Path.{_≡_, refl}
-use mathlib.Core.List.{[], _∷_}
+use mathlib.Core.List.{[], _∷_, map}
 use Rattle.decoder.specs.Decoder.{refused, ended}
+use Rattle.report_input.specs.Input.{blockOf, block}
+use Rattle.report_input.specs.Input as reader
 use Rattle.tally.specs.Tally.{counted}
 use Rattle.vedrogne.specs.Interface.{
   settingsIn,
@@ -13,6 +15,7 @@ use Rattle.vedrogne.specs.Interface.{
   iterationsOut,
   reasonOut,
 }
+use Rattle.vedrogne.specs.Texts.{settingsAfter, readMeaning, reportCallNumber}
 
 -- the report's order; a seventh element is not read
 pub settings : settingsIn (1 ∷ 31 ∷ 16 ∷ 10 ∷ 2 ∷ 3 ∷ 99 ∷ [])
@@ -52,3 +55,19 @@ ending-told = refl
 pub refusal-told : resultNumber (refused 10) ∷ iterationsOut (refused 10) 77 ∷ reasonOut (refused 10) 88 ∷ []
     ≡ 10 ∷ 77 ∷ 88 ∷ []
 refusal-told = refl
+
+-- ---- texts
+
+-- a list of five for the settings is refused before a text that is malformed
+pub five-to-read-into : readMeaning (0 ∷ 0 ∷ 0 ∷ 0 ∷ 0 ∷ []) (blockOf [] []) [] ≡ reader.refused 7
+five-to-read-into = refl
+
+-- six are written, in the report's order; a seventh stays
+pub settings-written : settingsAfter
+    (block (record { m = 1; ceiling = 31; scale = 16; limit = 10; criterion = 2; operand = 3 }) (blockOf [] []))
+    (9 ∷ 9 ∷ 9 ∷ 9 ∷ 9 ∷ 9 ∷ 99 ∷ [])
+    ≡ 1 ∷ 31 ∷ 16 ∷ 10 ∷ 2 ∷ 3 ∷ 99 ∷ []
+settings-written = refl
+
+pub report-rooms : map reportCallNumber (32767 ∷ 32768 ∷ 32769 ∷ []) ≡ 7 ∷ 0 ∷ 0 ∷ []
+report-rooms = refl

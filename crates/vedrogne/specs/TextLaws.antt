@@ -9,9 +9,8 @@ use Rattle.calls.specs.LentMemory.{writtenOver}
 use Rattle.calls.specs.LentMemoryLaws.{written-sets}
 use Rattle.calls.specs.NumberLaws.{first-refusal-passed}
 use Rattle.settings.specs.declared.Settings.{Settings}
-use Rattle.report_input.specs.Input.{Block, Meaning, refused, block, blockNumber, roomOf}
+use Rattle.report_input.specs.Input.{Block, Meaning, refused, block, blockNumber, roomOf, firstOf}
 use Rattle.report_input.specs.InputLaws.{Roomy}
-use Rattle.report_input.specs.Private.{firstOf}
 use Rattle.report_writer.specs.Writer.{tidyText, writeNumber}
 use Rattle.report_writer.specs.WriterLaws.{read-written-in}
 use Rattle.vedrogne.specs.Interface.{settingsLength, settingsIn, settingsListNumber}

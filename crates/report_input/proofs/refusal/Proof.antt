@@ -8,14 +8,13 @@ use lib.Pow.{pow-mono}
 use lib.Seq.{length-take-le}
 use Rattle.scan.specs.Reading.{Reading, found}
 use Rattle.scan.specs.Answers.{readTo}
-use Rattle.report_input.specs.Input.{Block, blockOf, readPositions, blockNumber, heldIn}
+use Rattle.report_input.specs.Input.{Block, blockOf, readPositions, blockNumber, heldIn, firstOf}
 use Rattle.report_input.specs.InputLaws.{
   lines-malformed,
   lines-followed,
   lines-number,
   take-smaller,
 }
-use Rattle.report_input.specs.Private.{firstOf}
 use borrow.Author.Needs.{needs}
 use Rattle.report_input.proofs.refusal.Statement.{statement}
 use Rattle.report_input.proofs.refusal.Tie as tie
@@ -24,7 +23,7 @@ use Rattle.report_input.proofs.refusal.Lts as lts
 use Rattle.report_input.proofs.read_positions.Reads as read-positions-reads
 use Rattle.report_input.proofs.smaller.Reads as smaller-reads
 use Rattle.polar.proofs.power_of_two.Reads as power-of-two-reads
-use Rattle.settings.proofs.refusal.Reads as refusal-reads
+use Rattle.report_input.proofs.block_refusal.Reads as block-refusal-reads
 
 small : (c : tie.After-power-of-two) → c .power-of-two .result ≤ 2 ^ 10
 small c = rw (c .power-of-two .ensures) (pow-mono (c .before .before .pre .2))
@@ -119,26 +118,26 @@ array-share-prefix-mask : tie.Need-array-share-prefix-mask
 array-share-prefix-mask c =
     omega (arith, c .before .smaller .ensures, told c .before .before .before .before .mask2 .given, small (size c))
 
-slice-aggregate-refusal : tie.Need-slice-aggregate-refusal
-slice-aggregate-refusal c = sym (length-take-le _ _ (array-share-prefix-mask (c .before)))
+slice-aggregate-block-refusal : tie.Need-slice-aggregate-block-refusal
+slice-aggregate-block-refusal c = sym (length-take-le _ _ (array-share-prefix-mask (c .before)))
 
 array-share-prefix-llr : tie.Need-array-share-prefix-llr
 array-share-prefix-llr c =
     let k = c .before in
     omega (arith, k .smaller2 .ensures, told k .before .before .before .llr2 .given, small (size k))
 
-slice-aggregate-refusal-2 : tie.Need-slice-aggregate-refusal-2
-slice-aggregate-refusal-2 c = sym (length-take-le _ _ (array-share-prefix-llr (c .before)))
+slice-aggregate-block-refusal-2 : tie.Need-slice-aggregate-block-refusal-2
+slice-aggregate-block-refusal-2 c = sym (length-take-le _ _ (array-share-prefix-llr (c .before)))
 
-refusal-requires : tie.Need-refusal-requires
-refusal-requires c κs = search needs
+block-refusal-requires : tie.Need-block-refusal-requires
+block-refusal-requires c κs = search needs
 
 returns-3 : tie.Need-returns-3
 returns-3 c =
     let k = c .before .before .before in
     let r = reading (told k) in
     let s = start r .args .settings in
-    c .refusal .ensures
+    c .block-refusal .ensures
     ∙ ap (blockNumber s) (held k)
     ∙ lines-number (start r .args .room) s _ (block r) _ (text r) (at-end (told k)) (k .before .before .if1 .left)
 
@@ -157,8 +156,8 @@ refusal-spec =
     smaller-requires
     smaller-requires-2
     array-share-prefix-mask
-    slice-aggregate-refusal
+    slice-aggregate-block-refusal
     array-share-prefix-llr
-    slice-aggregate-refusal-2
-    refusal-requires
+    slice-aggregate-block-refusal-2
+    block-refusal-requires
     returns-3)

@@ -8,8 +8,7 @@ use lib.ListN.{length, take, length-take, length-replicate}
 use Rattle.format.specs.Wrote.{Wrote}
 use Rattle.format.specs.TextLaws.{refusal-length}
 use Rattle.calls.specs.Bounds.{mostWorkspace}
-use Rattle.report_input.specs.Input.{Block, blockOf, meaning}
-use Rattle.report_input.specs.Private.{firstOf}
+use Rattle.report_input.specs.Input.{Block, blockOf, meaning, firstOf}
 use Rattle.report_input.specs.ReadLaws.{AcceptedText, cleared-long, accepted-text, refused-text}
 use Rattle.report_text.specs.Report.{textOf, report}
 use Rattle.report_text.specs.ReportLaws.{fit-length}

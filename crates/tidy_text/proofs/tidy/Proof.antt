@@ -6,8 +6,7 @@ use native.Mathlib.Omega.{arith}
 use Rattle.format.specs.TextLaws.{refusal-length}
 use Rattle.format.specs.Wrote.{Wrote}
 use Rattle.format.specs.WroteLaws.{wrote-within}
-use Rattle.report_input.specs.Input.{Block, blockOf, blockNumber, meaning}
-use Rattle.report_input.specs.Private.{firstOf}
+use Rattle.report_input.specs.Input.{Block, blockOf, blockNumber, meaning, firstOf}
 use Rattle.report_input.specs.ReadLaws.{AcceptedText, cleared-long, accepted-text, refused-text}
 use Rattle.report_writer.specs.Writer.{tidyText}
 use Rattle.report_writer.specs.WriterLaws.{first-number, tidy-first}
