@@ -299,7 +299,8 @@ tested-whole zs (found lines []) small long = either (numberedFrom 0 lines)
         (simp length-map (long lines [] refl))
     either false = refl
 
-sized-whole : (R : Reading (List ℤ)) → numberIn (sized largestRoom (bind R (λ zs s. found (settingsOf zs) s))) ≡ wholeSized R
+sized-whole : (R : Reading (List ℤ))
+    → numberIn (sized largestRoom (bind R (λ zs s. found (settingsOf zs) s))) ≡ wholeSized R
 sized-whole malformed = refl
 sized-whole (found zs s) =
     rw (range-whole 1 largestM (valueAt zs 0) (lit< tt)) (either (inRange 1 largestM (valueAt zs 0)) refl)

@@ -18,7 +18,26 @@ use Rattle.format.specs.Texts.{positionLines}
 use Rattle.format.specs.TextLaws.{position-lines-same}
 use Rattle.polar.specs.Code.{informationCount}
 use Rattle.polar.specs.Mask.{maskAccepted, isMaskByte}
-use Rattle.report_input.specs.Input.{longestText, outsideMask, outsideLlr, settingNames, positionNames, llrValue, Block, blockOf, head, readPosition, readPositions, block, blockNumber, heldIn, meaningIn, largestRoom, meaning, firstOf}
+use Rattle.report_input.specs.Input.{
+  longestText,
+  outsideMask,
+  outsideLlr,
+  settingNames,
+  positionNames,
+  llrValue,
+  Block,
+  blockOf,
+  firstOf,
+  head,
+  readPosition,
+  readPositions,
+  block,
+  blockNumber,
+  heldIn,
+  meaningIn,
+  largestRoom,
+  meaning,
+}
 use Rattle.report_input.specs.InputLaws.{
   read-position-found,
   head-found,

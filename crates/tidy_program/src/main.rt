@@ -1,7 +1,7 @@
 // The tidy program: one text from standard input, its tidy form to standard output.
 // It sees `tidy_text`, the longest texts of `report_input` and `report_writer`, and `console`.
-// Proved: it ends, and stays within its memory; the bytes handed to `console::write_text` are the tidy form of the bytes
-// that `console::read_text` counted, by the promise of `tidy_text::tidy`.
+// Proved: it ends, and stays within its memory; the bytes handed to `console::write_text` are the tidy form of the
+// bytes that `console::read_text` counted, by the promise of `tidy_text::tidy`.
 // By inspection and test: what `console` says of reading and writing. The tests are the texts with stored outputs and
 // the comparison with the second implementation.
 use report_input::LONGEST_TEXT;

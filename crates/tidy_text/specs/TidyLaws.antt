@@ -64,6 +64,7 @@ means-same (block s b) (block s′ b′) fit fit′ e = sym (fit-means s b fit) 
 
 -- any two texts have the same tidy form exactly where they mean the same: the same settings and block, or a refusal
 -- with the same number
-pub tidy-alike : (t t′ : List ℕ) → (tidy t ≡ tidy t′ → meaning t ≡ meaning t′) × (meaning t ≡ meaning t′ → tidy t ≡ tidy t′)
+pub tidy-alike : (t t′ : List ℕ)
+    → (tidy t ≡ tidy t′ → meaning t ≡ meaning t′) × (meaning t ≡ meaning t′ → tidy t ≡ tidy t′)
 unfolding tidy
 tidy-alike t t′ = (means-same (meaning t) (meaning t′) (meaning-fit t) (meaning-fit t′), λ e. ap tidyOf e)

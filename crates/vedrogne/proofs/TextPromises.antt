@@ -16,7 +16,18 @@ use Rattle.format.specs.Wrote.{Wrote}
 use Rattle.settings.specs.declared.Settings.{Settings}
 use Rattle.report_input.specs.declared.Input.{Input}
 use Rattle.report_input.specs.declared.Input.the-variants as input
-use Rattle.report_input.specs.Input.{Block, Meaning, refused, block, meaningIn, ReadAnswer, accepted, rejected, roomOf, InputRead}
+use Rattle.report_input.specs.Input.{
+  Block,
+  Meaning,
+  refused,
+  block,
+  meaningIn,
+  ReadAnswer,
+  accepted,
+  rejected,
+  roomOf,
+  InputRead,
+}
 use Rattle.report_input.specs.Input as reader
 use Rattle.report_text.specs.Report.{reportRoom}
 use Rattle.report_writer.specs.declared.Written.{Written}

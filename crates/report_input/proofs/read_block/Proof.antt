@@ -71,7 +71,9 @@ returns c =
     let a = c .before .before .before .before .args in
     let called = c .before .is-block-length in
     let tested = sym (called .ensures) ∙ not-true (called .result) (c .if1 .taken) in
-    read-refused BlockLength (sized-refused (roomOf (blockOf (a .mask .now) (a .llr .now))) (a .settings) (drop (a .at) (a .text .now)) tested)
+    let lent = blockOf (a .mask .now) (a .llr .now) in
+    read-refused BlockLength
+    (sized-refused (roomOf lent) (a .settings) (drop (a .at) (a .text .now)) tested)
 
 refusal-requires : tie.Need-refusal-requires
 refusal-requires c κs = (start c .pre, range c .0, range c .1)
@@ -97,7 +99,8 @@ returns-2 c =
     let refusal = c .before .refusal2 .given .0 .0 in
     let called = sym (ap numberOf (c .before .refusal2 .given .1)) ∙ c .before .before .before .refusal .ensures in
     read-refused refusal
-    (sized-tested (room range) (start range .args .settings) (behind range) (passed range) ∙ refused-block refusal _ called)
+    (sized-tested (room range) (start range .args .settings) (behind range) (passed range)
+    ∙ refused-block refusal _ called)
 
 same-length : tie.Need-same-length
 same-length c = search needs

@@ -100,12 +100,14 @@ enum-told c = search needs
 returns : tie.Need-returns
 returns c =
     let r = c .before .before .before .before in
-    lines-malformed (start r .args .room) (start r .args .settings) _ (read r ∙ ap (readTo (text r) (block r)) (c .enum-told .given .1))
+    lines-malformed (start r .args .room) (start r .args .settings) _
+    (read r ∙ ap (readTo (text r) (block r)) (c .enum-told .given .1))
 
 returns-2 : tie.Need-returns-2
 returns-2 c =
     let r = reading (c .before) in
-    lines-followed (start r .args .room) (start r .args .settings) _ (block r) (c .before .before .read .given .0 .0) (text r)
+    lines-followed (start r .args .room) (start r .args .settings) _ (block r) (c .before .before .read .given .0 .0)
+    (text r)
     (at-end (c .before)) (c .if1 .taken)
 
 smaller-requires : tie.Need-smaller-requires

@@ -56,8 +56,8 @@ enum-known-refusal c = search needs
 refused-requires : tie.Need-refused-requires
 refused-requires c κs =
     let told = c .before .before in
-    let room = told .before .before .before .out .given in
-    omega (arith, refusal-length (told .refusal .given .0 .0), room, start (told .before .before .before .before) .pre .1)
+    let after = told .before .before .before in
+    omega (arith, refusal-length (told .refusal .given .0 .0), after .out .given, start (after .before) .pre .1)
 
 same-length : tie.Need-same-length
 same-length c = search needs
