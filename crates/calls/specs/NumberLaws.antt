@@ -47,6 +47,9 @@ refusal-number UnusableTally f = f 14 refl (lit< tt)
 pub refusal-digits : (r : Refusal) → refusalNumber r ≤ 99
 refusal-digits r = refusal-number r (λ n e h. omega arith)
 
+pub refusal-positive : (r : Refusal) → 0 ≡ refusalNumber r → ⊥
+refusal-positive r e = refusal-number r (λ n g h. omega arith)
+
 pub refused-first : (r : Refusal) (next : ℕ) → firstRefusal (refusalNumber r) next ≡ refusalNumber r
 refused-first r next = refusal-number r (λ n e h. rw e)
 

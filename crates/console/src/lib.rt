@@ -70,7 +70,7 @@ pub fn write_text(program: &[u8], bytes: &[u8]) {
     }
 }
 
-// A piece of the output.
+// A piece of the output of a program whose stored output would show what is missing, so a failure isn't said.
 pub fn text(bytes: &[u8]) {
     io::write_all(STDOUT_FILENO, bytes);
 }

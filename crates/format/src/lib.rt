@@ -1,4 +1,4 @@
-// Writes numbers, lines of values and fixed texts as bytes into a lent slice.
+// Writes numbers, lines of values, fixed texts and refusals as bytes into a lent slice.
 // It sees `calls`. Each function promises the bytes that the definitions of specs/ give, from the position handed in on
 // (a refusal's from the first), the old contents elsewhere, and the position behind them. All that it asks for is the
 // room.

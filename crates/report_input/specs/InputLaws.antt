@@ -13,8 +13,8 @@ use lib.Seq.{take-suc-set, getD-take, drop-cons, sets, take-take, take-all}
 use Rattle.calls.specs.Bounds.{largestM}
 use Rattle.calls.specs.LentMemoryLaws.{written-sets}
 use Rattle.calls.specs.declared.Refusal.{Refusal}
-use Rattle.calls.specs.Numbers.{between, refusalNumber, firstRefusal}
-use Rattle.calls.specs.NumberLaws.{refused-first}
+use Rattle.calls.specs.Numbers.{between, refusalNumber}
+use Rattle.calls.specs.NumberLaws.{refusal-positive}
 use Rattle.settings.specs.declared.Settings.{Settings}
 use Rattle.settings.specs.SettingsLaws.{accepted}
 use Rattle.scan.specs.Reading.{Reading, found, malformed, bind, ifFound}
@@ -321,14 +321,10 @@ pub number-in : (n : ℕ) (s : Settings) (b : Block) → numberIn (meaningBy n s
 number-in zero s b = refl
 number-in (suc n) s b = refl
 
-number-positive : (r : Refusal) → 0 ≡ refusalNumber r → ⊥
-number-positive r e =
-    let one : 1 ≡ refusalNumber r = ap (λ (n : ℕ). firstRefusal n 1) e ∙ refused-first r 1 in omega arith
-
 pub refused-block : (r : Refusal) (means : Meaning) → refusalNumber r ≡ numberIn means
     → means ≡ refused (refusalNumber r)
 refused-block r (refused number) e = ap refused (sym e)
-refused-block r (block s b) e = absurd (number-positive r (sym e))
+refused-block r (block s b) e = absurd (refusal-positive r (sym e))
 
 -- where no number applies, the lines were read to the end of the text, and the block has room
 pub record Whole (room : Room) (s : Settings) (R : Reading Block) : Type 0 where

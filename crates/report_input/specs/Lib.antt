@@ -1,6 +1,7 @@
 pub mod Input
 pub mod Private
 pub mod InputLaws
+pub mod RoomLaws
 pub mod ReadLaws
 pub mod WholeNumbers
 pub mod WholeNumberLaws

@@ -184,7 +184,7 @@ fn read_positions(text: &[u8], at: usize, n: usize, mask: &mut [u8], llr: &mut [
 }
 
 // The decoder's tests of a block, with room for one of any length in what only the decoder writes.
-pub fn block_refusal(settings: Settings, mask: &[u8], llr: &[i16]) -> Answer
+pub fn decoder_refusal(settings: Settings, mask: &[u8], llr: &[i16]) -> Answer
     ensures { λ r. ⌜ numberOf r ≡ blockNumber settings (blockOf (now (mask .entry)) (now (llr .entry))) ⌝ }
 {
     let lengths = Lengths {
@@ -225,7 +225,7 @@ fn refusal(text: &[u8], at: usize, settings: Settings, room: Room) -> Answer
     let llr_room = room.llr;
     let mask_held = smaller(n, mask_room);
     let llr_held = smaller(n, llr_room);
-    block_refusal(settings, &mask[..mask_held], &llr[..llr_held])
+    decoder_refusal(settings, &mask[..mask_held], &llr[..llr_held])
 }
 
 // 1: m from 1 to 10.

@@ -157,7 +157,8 @@ fn decoded(out: &mut [u8], settings: Settings, mask: &[u8], llr: &[i16], work: &
 // The report of a text, in a slice with room for every output.
 pub fn report_into(text: &[u8], out: &mut [u8]) -> usize
     requires { ⌜ reportRoom ≤ length (now out) ⌝ }
-    ensures { λ r. ⌜ Wrote (now (out .entry)) 0 (report (now (text .entry))) (now (out .exit)) r ⌝ }
+    ensures { λ r. ⌜ Wrote (now (out .entry)) 0
+        (report (now (text .entry))) (now (out .exit)) r ⌝ }
     ensures { λ r. ⌜ r ≤ reportRoom ⌝ }
 {
     let mut mask = [0u8; MOST_POSITIONS];

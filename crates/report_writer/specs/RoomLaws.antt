@@ -2,14 +2,15 @@
 -- by its number.
 use Prim.Native.Nat.{ℕ, zero, suc, _+_, _-_, _^_, _≤_, _<_}
 use mathlib.Core.Path.{_≡_, refl, sym, ap, _∙_}
-use mathlib.Core.Bool.{true}
+use mathlib.Core.Bool.{Bool, true, false, true≢false}
 use mathlib.Core.List.{List, [], _∷_, _++_}
 use native.Mathlib.Nat.{suc-add}
 use native.Mathlib.Omega.{arith}
 use borrow.Author.Tests.{leb-true, eqb-true, le-leb, lt-leb}
 use lib.IntN.{ℤ, pos, natAbs}
-use lib.ListN.{length, getD, length-append}
+use lib.ListN.{length, getD, take, drop, length-append}
 use lib.Pow.{pow-mono}
+use lib.Seq.{take-append-seam}
 use Rattle.calls.specs.declared.Refusal.{Refusal}
 use Rattle.calls.specs.Bounds.{mostPositions, largestCeiling}
 use Rattle.calls.specs.EveryLaws.{every-at}
@@ -33,20 +34,24 @@ use Rattle.format.specs.Texts.{positionLines}
 use Rattle.report_input.specs.Input.{settingNames, positionNames, largestLengths, Block, blockNumber}
 use Rattle.report_writer.specs.Writer.{
   valuesOf,
-  positionValues,
+  valuesAt,
   tidyText,
   longestTidyText,
   writeNumber,
+  WriteAnswer,
   wrote,
   rejected,
   writeAnswerBy,
   writeAnswer,
   textAfter,
+  answerOf,
 }
+use Rattle.report_writer.specs.declared.Written.{Written}
+use Rattle.report_writer.specs.declared.Written.the-variants.{Length, Refused}
 
 -- ---- what is written of an accepted block
 
--- an operand is at most as large as the ceiling, or 8
+-- an operand is at most the ceiling, or 8, and so at most the largest ceiling
 operand-le : (C criterion operand : ℕ) → C ≤ largestCeiling → operandFits C criterion operand ≡ true
     → operand ≤ largestCeiling
 operand-le C zero operand h e = omega (arith, eqb-true operand 0 e)
@@ -99,8 +104,8 @@ shown-digits : (k n : ℕ) → n < 10 ^ suc k → length (shown (pos n)) ≤ suc
 unfolding shown
 shown-digits k n h = decimal-length k n h
 
--- the most bytes of the lines of n positions from p on: the digits of each, and 9 for a mask value, an LLR and what
--- parts them
+-- the most bytes of the lines of n positions from p on: the digits of each, and 9 for its mask value, its LLR, two
+-- spaces and the end of the line
 linesBytes : ℕ → ℕ → ℕ
 linesBytes zero p = 0
 linesBytes (suc n) p = length (shown (pos p)) + 9 + linesBytes n (suc p)
@@ -123,7 +128,7 @@ module _ (s : Settings) (b : Block) (none : blockNumber s b ≡ 0) where
   pub settings-digits : FourDigits (valuesOf s)
   settings-digits = let a = block-accepted s b none .settings in omega (arith, operand-small s b none)
 
-  pub position-digits : (p : ℕ) → p < 2 ^ s .m → FourDigits (positionValues b p)
+  pub position-digits : (p : ℕ) → p < 2 ^ s .m → FourDigits (valuesAt b p)
   position-digits p h =
       omega (arith, few-positions s b none, mask-small s b none p h, llr-small s b none p h)
 
@@ -141,14 +146,14 @@ module _ (s : Settings) (b : Block) (none : blockNumber s b ≡ 0) where
         shown-digits 3 (s .operand) (omega (arith, operand-small s b none)),
       )
 
-  lines-bytes : (n p : ℕ) → p + n ≤ 2 ^ s .m → length (positionLines (positionValues b) n p) ≤ linesBytes n p
+  lines-bytes : (n p : ℕ) → p + n ≤ 2 ^ s .m → length (positionLines (valuesAt b) n p) ≤ linesBytes n p
   unfolding positionLines linesBytes
   lines-bytes zero p h = omega arith
   lines-bytes (suc n) p h =
       omega (
         arith,
-        length-append (line (positionValues b p)) (positionLines (positionValues b) n (suc p)),
-        line-bytes (positionValues b p),
+        length-append (line (valuesAt b p)) (positionLines (valuesAt b) n (suc p)),
+        line-bytes (valuesAt b p),
         shown-digits 0 (getD (b .mask) p 0) (omega (arith, mask-small s b none p (omega arith))),
         shown-length (getD (b .llr) p (pos 0)) (omega (arith, llr-small s b none p (omega arith))),
         lines-bytes n (suc p) (omega arith),
@@ -159,7 +164,7 @@ module _ (s : Settings) (b : Block) (none : blockNumber s b ≡ 0) where
   unfolding tidyText
   tidy-length =
       let n = 2 ^ s .m in
-      let lines = positionLines (positionValues b) n 0 in
+      let lines = positionLines (valuesAt b) n 0 in
       omega (
         arith,
         settings-bytes,
@@ -203,7 +208,7 @@ module _ (s : Settings) (b : Block) (old : List ℕ) (e : blockNumber s b ≡ 0)
   short-text h = ap (slice s b old) (sym (short-number h))
 
   -- the text, where it has room
-  written-number : length (tidyText s b) ≤ length old → writeNumber s b (length old) ≡ 0
+  pub written-number : length (tidyText s b) ≤ length old → writeNumber s b (length old) ≡ 0
   written-number h = rw (e, le-leb (length (tidyText s b)) (length old) h)
 
   pub written-answer : length (tidyText s b) ≤ length old → wrote (length (tidyText s b)) ≡ writeAnswer s b old
@@ -211,3 +216,35 @@ module _ (s : Settings) (b : Block) (old : List ℕ) (e : blockNumber s b ≡ 0)
 
   pub written-text : length (tidyText s b) ≤ length old → writtenOver (tidyText s b) old ≡ textAfter s b old
   written-text h = ap (slice s b old) (sym (written-number h))
+
+-- ---- what an answer says
+
+abbrev isWrote : WriteAnswer → Bool
+isWrote (wrote n) = true
+isWrote (rejected number) = false
+
+by-refusal : (number n : ℕ) {k : ℕ} → rejected k ≡ writeAnswerBy number n → number ≡ k
+by-refusal zero n e = absurd (true≢false (ap isWrote (sym e)))
+by-refusal (suc number) n e = cc
+
+by-length : (number n : ℕ) {k : ℕ} → wrote k ≡ writeAnswerBy number n → (number ≡ 0) × (k ≡ n)
+by-length zero n e = (refl, cc)
+by-length (suc number) n e = absurd (true≢false (ap isWrote e))
+
+module _ (s : Settings) (b : Block) (old : List ℕ) (r : Written) (answer : answerOf r ≡ writeAnswer s b old) where
+  pub answered-refused : {refusal : Refusal} → r ≡ Refused refusal
+      → writeNumber s b (length old) ≡ refusalNumber refusal
+  answered-refused e =
+      by-refusal (writeNumber s b (length old)) (length (tidyText s b)) (sym (ap answerOf e) ∙ answer)
+
+  pub answered-written : {k : ℕ} → r ≡ Length k
+      → (writeNumber s b (length old) ≡ 0) × (k ≡ length (tidyText s b))
+  answered-written e =
+      by-length (writeNumber s b (length old)) (length (tidyText s b)) (sym (ap answerOf e) ∙ answer)
+
+-- where a length is answered, so many bytes of the slice are the text
+pub text-first : (s : Settings) (b : Block) (old : List ℕ) {n : ℕ} → writeAnswer s b old ≡ wrote n
+    → take n (textAfter s b old) ≡ tidyText s b
+text-first s b old e =
+    let done = by-length (writeNumber s b (length old)) (length (tidyText s b)) (sym e) in
+    rw (done .0, done .1) (take-append-seam (tidyText s b) (drop (length (tidyText s b)) old))

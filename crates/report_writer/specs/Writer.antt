@@ -1,7 +1,7 @@
 -- Request 2026-01, "Tidy block files": the one text that settings and a block are written as, and what the writer
 -- answers and leaves. Definitions only.
 use Prim.Native.Nat.{ℕ, zero, suc, _^_}
-use mathlib.Core.List.{List, [], _∷_, _++_}
+use mathlib.Core.List.{List, [], _∷_, _++_, map}
 use lib.Dec.{leb}
 use lib.IntN.{ℤ, pos}
 use lib.ListN.{length, getD}
@@ -13,23 +13,17 @@ use Rattle.report_input.specs.Input.{settingNames, positionNames, Block, blockN
 use Rattle.report_writer.specs.declared.Written.{Written}
 use Rattle.report_writer.specs.declared.Written.the-variants.{Length, Refused}
 use Rattle.settings.specs.declared.Settings.{Settings}
+use Rattle.settings.specs.Settings.{settingsList}
 
 -- ---- the text: "single spaces, no leading zeros and no minus before 0", as `line` has them
 
--- every setting, in the order of the names
+-- every setting, in the order of its name
 abbrev pub valuesOf : Settings → List ℤ
-valuesOf s =
-    pos (s .m)
-    ∷ pos (s .ceiling)
-    ∷ pos (s .scale)
-    ∷ pos (s .limit)
-    ∷ pos (s .criterion)
-    ∷ pos (s .operand)
-    ∷ []
+valuesOf s = map pos (settingsList s)
 
 -- of a position its number, its mask value and its LLR
-abbrev pub positionValues : Block → ℕ → List ℤ
-positionValues b p = pos p ∷ pos (getD (b .mask) p 0) ∷ getD (b .llr) p (pos 0) ∷ []
+abbrev pub valuesAt : Block → ℕ → List ℤ
+valuesAt b p = pos p ∷ pos (getD (b .mask) p 0) ∷ getD (b .llr) p (pos 0) ∷ []
 
 -- names, the settings, names, and the N positions in order
 unfoldable pub tidyText : Settings → Block → List ℕ
@@ -37,9 +31,9 @@ tidyText s b =
     settingNames
     ++ line (valuesOf s)
     ++ positionNames
-    ++ positionLines (positionValues b) (2 ^ s .m) 0
+    ++ positionLines (valuesAt b) (2 ^ s .m) 0
 
--- the most bytes of the text of a block that is accepted: 1,024 positions, and as many digits as the ranges allow
+-- how many bytes the text of an accepted block has at most: 1,024 positions, and as many digits as the ranges allow
 abbrev pub longestTidyText : ℕ
 longestTidyText = 12284
 

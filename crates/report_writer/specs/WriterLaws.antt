@@ -58,7 +58,7 @@ use Rattle.report_writer.specs.RoomLaws.{
   position-digits,
   tidy-length,
 }
-use Rattle.report_writer.specs.Writer.{valuesOf, positionValues, tidyText}
+use Rattle.report_writer.specs.Writer.{valuesOf, valuesAt, tidyText}
 use Rattle.scan.specs.Reading.{found}
 use Rattle.settings.specs.declared.Settings.{Settings}
 use Rattle.settings.specs.Settings.{withinCeiling}
@@ -98,14 +98,14 @@ unfolding tidyText
 tidy-first s b =
     let n = 2 ^ s .m in
     ap (λ (lines : List ℕ). settingNames ++ line (valuesOf s) ++ positionNames ++ lines)
-    (position-lines-same (positionValues (firstOf n b)) (positionValues b) n 0
+    (position-lines-same (valuesAt (firstOf n b)) (valuesAt b) n 0
     (λ i _ h. let l : i < n = omega arith in rw (getD-take n (b .mask) i 0 l, getD-take n (b .llr) i (pos 0) l)))
 
 -- ---- reading it
 
 -- the names, the line of the settings, the names, and the lines of the positions
 parts : (s : Settings) (b : Block) → tidyText s b
-    ≡ settingNames ++ (line (valuesOf s) ++ (positionNames ++ positionLines (positionValues b) (2 ^ s .m) 0))
+    ≡ settingNames ++ (line (valuesOf s) ++ (positionNames ++ positionLines (valuesAt b) (2 ^ s .m) 0))
 unfolding tidyText
 parts s b = simp append-assoc
 
@@ -125,9 +125,9 @@ read-whole room t u s b short h m lines none held =
 
 -- the first three lines give the settings
 pub head-back : (s : Settings) (b : Block) → blockNumber s b ≡ 0
-    → head (tidyText s b) ≡ found s (positionLines (positionValues b) (2 ^ s .m) 0)
+    → head (tidyText s b) ≡ found s (positionLines (valuesAt b) (2 ^ s .m) 0)
 head-back s b none =
-    let lines = positionLines (positionValues b) (2 ^ s .m) 0 in
+    let lines = positionLines (valuesAt b) (2 ^ s .m) 0 in
     let third = positionNames ++ lines in
     let second = line (valuesOf s) ++ third in
     ap head (parts s b)
@@ -135,13 +135,13 @@ head-back s b none =
     (line-back (valuesOf s) third (settings-digits s b none)) (literal-back positionNames lines)
 
 module _ (s : Settings) (b : Block) (none : blockNumber s b ≡ 0) where
-  position-back : (p : ℕ) (u : List ℕ) → p < 2 ^ s .m → readPosition p (line (positionValues b p) ++ u)
+  position-back : (p : ℕ) (u : List ℕ) → p < 2 ^ s .m → readPosition p (line (valuesAt b p) ++ u)
       ≡ found (record { frozen = getD (b .mask) p 0; llr = getD (b .llr) p (pos 0) }) u
   position-back p u h =
       let kept = mask-small s b none p h in
       let mask-same : min (getD (b .mask) p 0) outsideMask ≡ getD (b .mask) p 0 = omega arith in
-      read-position-found p (positionValues b p) (line (positionValues b p) ++ u) u
-      (line-back (positionValues b p) u (position-digits s b none p h))
+      read-position-found p (valuesAt b p) (line (valuesAt b p) ++ u) u
+      (line-back (valuesAt b p) u (position-digits s b none p h))
       ∙ rw (
         eq-eqb p p refl,
         mask-same,
@@ -150,14 +150,14 @@ module _ (s : Settings) (b : Block) (none : blockNumber s b ≡ 0) where
 
   -- the lines of n positions from p on give their part of the block
   positions-from : (n p : ℕ) → p + n ≤ 2 ^ s .m
-      → readPositions n p (positionLines (positionValues b) n p)
+      → readPositions n p (positionLines (valuesAt b) n p)
       ≡ found (blockOf (take n (drop p (b .mask))) (take n (drop p (b .llr)))) []
   unfolding readPositions positionLines
   positions-from zero p h = refl
   positions-from (suc n) p h =
       let slices = block-accepted s b none .slices in
       rw (
-        position-back p (positionLines (positionValues b) n (suc p)) (omega arith),
+        position-back p (positionLines (valuesAt b) n (suc p)) (omega arith),
         positions-from n (suc p) (omega arith),
         drop-cons (b .mask) p 0 (omega arith),
         drop-cons (b .llr) p (pos 0) (omega arith),
@@ -165,7 +165,7 @@ module _ (s : Settings) (b : Block) (none : blockNumber s b ≡ 0) where
 
 -- the lines of the positions give the first N elements of the block
 pub positions-back : (s : Settings) (b : Block) → blockNumber s b ≡ 0
-    → readPositions (2 ^ s .m) 0 (positionLines (positionValues b) (2 ^ s .m) 0) ≡ found (firstOf (2 ^ s .m) b) []
+    → readPositions (2 ^ s .m) 0 (positionLines (valuesAt b) (2 ^ s .m) 0) ≡ found (firstOf (2 ^ s .m) b) []
 positions-back s b none = positions-from s b none (2 ^ s .m) 0 (omega arith)
 
 first-long : (s : Settings) (b : Block) → blockNumber s b ≡ 0 → Long (2 ^ s .m) (firstOf (2 ^ s .m) b)
@@ -182,7 +182,7 @@ pub read-written-in : (room : Room) (s : Settings) (b : Block) → blockNumber s
     → meaningIn room (tidyText s b) ≡ block s (firstOf (2 ^ s .m) b)
 read-written-in room s b none roomy =
     let a = block-accepted s b none .settings in
-    read-whole room (tidyText s b) (positionLines (positionValues b) (2 ^ s .m) 0) s (firstOf (2 ^ s .m) b)
+    read-whole room (tidyText s b) (positionLines (valuesAt b) (2 ^ s .m) 0) s (firstOf (2 ^ s .m) b)
     (omega (arith, tidy-length s b none)) (head-back s b none)
     (rw (le-leb 1 (s .m) (a .m-some)) (le-leb (s .m) largestM (a .m-le)))
     (positions-back s b none) (first-number s b ∙ none)

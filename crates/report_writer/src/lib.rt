@@ -1,7 +1,7 @@
 // The writer of the report's input: settings, mask and LLRs become the one text that they are written as.
-// It sees `report_input` for the decoder's tests and for the names that the reader compares, and `format`. It
-// promises the text that request 2026-01 gives, from the first byte of the lent slice on, its old contents behind, and
-// the text's length; or the number of a refusal, where nothing is written.
+// It sees `report_input` for the decoder's tests, `format`, and the block length of `polar`; its definitions take the
+// names that the reader compares. It promises the text that request 2026-01 gives, from the first byte of the lent slice
+// on, its old contents behind, and the text's length; or the number of a refusal, where nothing is written.
 ghost use mathlib.Core.Path.{_≡_};
 ghost use mathlib.Core.List.{[], _∷_};
 ghost use Prim.Native.Nat.{_+_, _≤_};
@@ -13,7 +13,7 @@ ghost use Rattle.format.specs.DecimalLaws.{FourDigits};
 ghost use Rattle.format.specs.Texts.{positionLines};
 ghost use Rattle.format.specs.Wrote.{Wrote};
 ghost use Rattle.report_input.specs.Input.{blockOf, blockNumber};
-ghost use Rattle.report_writer.specs.Writer.{valuesOf, positionValues, tidyText, longestTidyText};
+ghost use Rattle.report_writer.specs.Writer.{valuesOf, valuesAt, tidyText, longestTidyText};
 ghost use Rattle.report_writer.specs.Writer.{answerOf, writeAnswer, textAfter};
 use calls::Answer;
 use calls::Refusal;
@@ -57,9 +57,9 @@ fn position_line(out: &mut [u8], at: usize, position: usize, frozen: u8, llr: i1
 // The lines of the first n positions.
 fn position_lines(out: &mut [u8], at: usize, n: usize, mask: &[u8], llr: &[i16]) -> usize
     requires { ⌜ (n ≤ mostPositions) × (n ≤ length (now mask)) × (n ≤ length (now llr)) ⌝ }
-    requires { ⌜ at + length (positionLines (positionValues (blockOf (now mask) (now llr))) n 0) ≤ length (now out) ⌝ }
+    requires { ⌜ at + length (positionLines (valuesAt (blockOf (now mask) (now llr))) n 0) ≤ length (now out) ⌝ }
     ensures { λ r. ⌜ Wrote (now (out .entry)) at
-        (positionLines (positionValues (blockOf (now (mask .entry)) (now (llr .entry)))) n 0) (now (out .exit)) r ⌝ }
+        (positionLines (valuesAt (blockOf (now (mask .entry)) (now (llr .entry)))) n 0) (now (out .exit)) r ⌝ }
 {
     let mut end = at;
     let mut i: usize = 0;
@@ -91,7 +91,7 @@ pub fn write(settings: Settings, mask: &[u8], llr: &[i16], text: &mut [u8]) -> W
     ensures { λ _. ⌜ now (text .exit)
         ≡ textAfter settings (blockOf (now (mask .entry)) (now (llr .entry))) (now (text .entry)) ⌝ }
 {
-    match report_input::block_refusal(settings, mask, llr) {
+    match report_input::decoder_refusal(settings, mask, llr) {
         Answer::Refused(refusal) => Written::Refused(refusal),
         Answer::Done => {
             let mut own = [0u8; LONGEST_TIDY_TEXT];

@@ -1,7 +1,7 @@
 -- Document 01, the decoder's lines of "Numbers by who causes them": 1 to 10. Definitions only.
 use Prim.Native.Nat.{ℕ, zero, suc, _+_, _*_, _^_}
 use mathlib.Core.Bool.{Bool, _&&_}
-use mathlib.Core.List.{List}
+use mathlib.Core.List.{List, [], _∷_}
 use lib.Dec.{leb, eqb}
 use lib.IntN.{ℤ, pos, natAbs}
 use lib.ListN.{length, getD}
@@ -12,6 +12,10 @@ use Rattle.polar.specs.Mask.{maskAccepted}
 use Rattle.polar.specs.Code.{informationCount}
 use Rattle.settings.specs.declared.Settings.{Settings}
 use Rattle.settings.specs.declared.Lengths.{Lengths}
+
+-- all settings, in the order of the report's first name line
+abbrev pub settingsList : Settings → List ℕ
+settingsList s = s .m ∷ s .ceiling ∷ s .scale ∷ s .limit ∷ s .criterion ∷ s .operand ∷ []
 
 -- 6. The operand of criteria 0 and 1 is 0, of 2 it is 1 to C, of 3 it is 1 to 8
 abbrev pub operandFits : ℕ → ℕ → ℕ → Bool

@@ -12,37 +12,38 @@ use Rattle.report_input.specs.InputLaws.{Means, meaning-fit}
 use Rattle.report_text.specs.Report.{blockText, workspace, textOf, report}
 use Rattle.report_writer.specs.ReadBackLaws.{decimal-same}
 use Rattle.report_writer.specs.Writer.{tidyText}
-use Rattle.report_writer.specs.WriterLaws.{read-written, fit-means}
+use Rattle.report_writer.specs.WriterLaws.{read-written, fit-means, tidy-means}
 use Rattle.settings.specs.declared.Settings.{Settings}
 use Rattle.scan.specs.Reading.{first}
 use Rattle.tidy_text.specs.Tidy.{tidyOf, tidy}
 
 -- an accepted text
 module _ (t : List ℕ) {s : Settings} {b : Block} (accepted : meaning t ≡ block s b) where
-  -- its tidy form is the text that the writer gives for its settings and block
+  -- the text that the writer gives for its settings and block has the same report, byte for byte
+  pub written-report : report (tidyText s b) ≡ report t
+  unfolding report
+  written-report = ap textOf (tidy-means t accepted ∙ sym accepted)
+
+  -- that text is its tidy form, which so means the same, has itself for its tidy form, and has the same report
   pub tidy-written : tidy t ≡ tidyText s b
   unfolding tidy
   tidy-written = ap tidyOf accepted
 
-  -- its tidy form means the same settings and block
   pub tidy-same-meaning : meaning (tidy t) ≡ meaning t
-  tidy-same-meaning = ap meaning tidy-written ∙ fit-means s b (rw accepted at (meaning-fit t)) ∙ sym accepted
+  tidy-same-meaning = ap meaning tidy-written ∙ tidy-means t accepted ∙ sym accepted
 
-  -- the tidy form of the tidy form is the tidy form, byte for byte
   pub tidy-again : tidy (tidy t) ≡ tidy t
   unfolding tidy
   tidy-again = ap tidyOf tidy-same-meaning
 
-  -- the text and its tidy form have the same report
   pub tidy-report : report (tidy t) ≡ report t
-  unfolding report
-  tidy-report = ap textOf tidy-same-meaning
+  tidy-report = ap report tidy-written ∙ written-report
 
 -- the report accepts what the writer gives: it is the outcome of the first N elements of the block
-pub written-report : (s : Settings) (b : Block) → blockNumber s b ≡ 0
+pub written-outcome : (s : Settings) (b : Block) → blockNumber s b ≡ 0
     → report (tidyText s b) ≡ blockText s (firstOf (2 ^ s .m) b) workspace
 unfolding report
-written-report s b none = ap textOf (read-written s b none)
+written-outcome s b none = ap textOf (read-written s b none)
 
 -- ---- two texts
 

@@ -1,7 +1,6 @@
 -- The promises of the functions on texts, from the ways in which each returns.
-use Prim.Native.Nat.{ℕ, zero, suc, _≤_, _<_}
+use Prim.Native.Nat.{ℕ, suc, _≤_, _<_}
 use mathlib.Core.Path.{_≡_, refl, sym, ap, _∙_}
-use mathlib.Core.Bool.{Bool, true, false, true≢false}
 use mathlib.Core.List.{List}
 use native.Mathlib.Omega.{arith}
 use native.Mathlib.Nat.{zero-add}
@@ -14,83 +13,47 @@ use Rattle.calls.specs.Numbers.{refusalNumber}
 use Rattle.calls.specs.NumberLaws.{refused-keeps}
 use Rattle.format.specs.Wrote.{Wrote}
 use Rattle.settings.specs.declared.Settings.{Settings}
+use Rattle.settings.specs.Settings.{settingsList}
 use Rattle.report_input.specs.declared.Input.{Input}
 use Rattle.report_input.specs.declared.Input.the-variants as input
-use Rattle.report_input.specs.Input.{
-  Block,
-  Meaning,
-  refused,
-  block,
-  meaningIn,
-  ReadAnswer,
-  accepted,
-  rejected,
-  roomOf,
-  InputRead,
-}
-use Rattle.report_input.specs.Input as reader
+use Rattle.report_input.specs.Input.{Block, Meaning, numberIn, meaningIn, roomOf, InputRead}
+use Rattle.report_input.specs.ReadLaws.{answered-accepted, answered-refused}
 use Rattle.report_text.specs.Report.{reportRoom}
 use Rattle.report_writer.specs.declared.Written.{Written}
 use Rattle.report_writer.specs.declared.Written.the-variants as answers
-use Rattle.report_writer.specs.Writer.{WriteAnswer, writeNumber, writeAnswerBy, writeAnswer, tidyText, textAfter}
+use Rattle.report_writer.specs.Writer.{writeNumber, writeAnswer, tidyText, textAfter}
 use Rattle.report_writer.specs.Writer as writer
+use Rattle.report_writer.specs.RoomLaws as writer-laws
 use Rattle.vedrogne.specs.Interface.{settingsIn, settingsListNumber}
-use Rattle.vedrogne.specs.Texts.{settingsList, readMeaning, ReadCall, writeCallNumber, reportCallNumber, TextCall}
+use Rattle.vedrogne.specs.TextCalls.{settingsAfter, readMeaning, ReadCall, writeCallNumber, reportCallNumber, TextCall}
 
 -- ---- the reader
 
-abbrev isAccepted : ReadAnswer → Bool
-isAccepted (accepted s) = true
-isAccepted (rejected number) = false
+module _ (settings text : List ℕ) {before after : Block} {r : Input} (long : settingsListNumber settings ≡ 0)
+    (read : InputRead (meaningIn (roomOf before) text) before after r) where
+  abbrev means : Meaning
+  means = meaningIn (roomOf before) text
 
-abbrev numberAnswered : ReadAnswer → ℕ
-numberAnswered (accepted s) = 0
-numberAnswered (rejected number) = number
+  -- a list of settings that is long enough leaves the text its meaning
+  listed : readMeaning settings before text ≡ means
+  listed = rw long
 
-module _ (settings : List ℕ) {before after : Block} {r : Input} where
-  as-refused : (means : Meaning) {refusal : Refusal} → InputRead means before after r → r ≡ input.Refused refusal
-      → ReadCall means settings settings before after (refusalNumber refusal)
-  as-refused (refused number) read e = record {
-    number-is = ap numberAnswered (sym (ap reader.answerOf e) ∙ read .answer);
-    settings-is = refl;
+  call : {other : Meaning} {settings′ : List ℕ} → means ≡ other → settings′ ≡ settingsAfter other settings
+      → ReadCall (readMeaning settings before text) settings settings′ before after (numberIn other)
+  call e stored = rw listed (record {
+    number-is = sym (ap numberIn e);
+    settings-is = stored ∙ sym (ap (λ (m : Meaning). settingsAfter m settings) e);
     block-is = read .after-is;
-  }
-  as-refused (block s b) read e =
-      absurd (true≢false (ap isAccepted (sym (read .answer) ∙ ap reader.answerOf e)))
+  })
 
-  as-accepted : (means : Meaning) {s : Settings} {settings′ : List ℕ} → InputRead means before after r
-      → r ≡ input.Accepted s → settings′ ≡ writtenOver (settingsList s) settings
-      → ReadCall means settings settings′ before after 0
-  as-accepted (refused number) read e stored =
-      absurd (true≢false (ap isAccepted (sym (ap reader.answerOf e) ∙ read .answer)))
-  as-accepted (block s′ b) {s} read e stored = record {
-    number-is = refl;
-    settings-is =
-        stored
-        ∙ ap (λ (x : Settings). writtenOver (settingsList x) settings)
-        (ap (settingsAnswered s) (sym (ap reader.answerOf e) ∙ read .answer));
-    block-is = read .after-is;
-  }
-    where
-      settingsAnswered : Settings → ReadAnswer → Settings
-      settingsAnswered d (accepted x) = x
-      settingsAnswered d (rejected number) = d
+  pub read-refused : {refusal : Refusal} → r ≡ input.Refused refusal
+      → ReadCall (readMeaning settings before text) settings settings before after (refusalNumber refusal)
+  read-refused e = call (answered-refused means read e) refl
 
-  -- the three ways of `vedrogne_read`
-  module _ (text : List ℕ) (long : settingsListNumber settings ≡ 0)
-      (read : InputRead (meaningIn (roomOf before) text) before after r) where
-    -- a list of settings that is long enough leaves the text its meaning
-    listed : readMeaning settings before text ≡ meaningIn (roomOf before) text
-    listed = rw long
-
-    pub read-refused : {refusal : Refusal} → r ≡ input.Refused refusal
-        → ReadCall (readMeaning settings before text) settings settings before after (refusalNumber refusal)
-    read-refused e = rw listed (as-refused (meaningIn (roomOf before) text) read e)
-
-    pub read-accepted : {s : Settings} {settings′ : List ℕ} → r ≡ input.Accepted s
-        → settings′ ≡ writtenOver (settingsList s) settings
-        → ReadCall (readMeaning settings before text) settings settings′ before after 0
-    read-accepted e stored = rw listed (as-accepted (meaningIn (roomOf before) text) read e stored)
+  pub read-accepted : {s : Settings} {settings′ : List ℕ} → r ≡ input.Accepted s
+      → settings′ ≡ writtenOver (settingsList s) settings
+      → ReadCall (readMeaning settings before text) settings settings′ before after 0
+  read-accepted e stored = call (answered-accepted means read e .1) stored
 
 pub read-short : (text settings : List ℕ) (before : Block) {number : ℕ} → settingsListNumber settings ≡ suc number
     → ReadCall (readMeaning settings before text) settings settings before before (suc number)
@@ -122,19 +85,6 @@ text-done {text = text} {old} {held = held} h e f = record {
   written-is = f ∙ ap (count text old held) (sym h);
 }
 
-abbrev isWrote : WriteAnswer → Bool
-isWrote (writer.wrote n) = true
-isWrote (writer.rejected number) = false
-
--- an answer is a number or a length
-refused-by : (n text : ℕ) {k : ℕ} → writer.rejected k ≡ writeAnswerBy n text → n ≡ k
-refused-by zero text e = absurd (true≢false (ap isWrote (sym e)))
-refused-by (suc n) text e = cc
-
-written-by : (n text : ℕ) {k : ℕ} → writer.wrote k ≡ writeAnswerBy n text → (n ≡ 0) × (k ≡ text)
-written-by zero text e = (refl, cc)
-written-by (suc n) text e = absurd (true≢false (ap isWrote e))
-
 -- the two ways of `vedrogne_write` behind the list of settings
 module _ (settings : List ℕ) (b : Block) (old : List ℕ) (long : settingsListNumber settings ≡ 0) where
   abbrev s : Settings
@@ -154,7 +104,7 @@ module _ (settings : List ℕ) (b : Block) (old : List ℕ) (long : settingsList
     pub write-refused : {refusal : Refusal} → r ≡ answers.Refused refusal
         → TextCall (writeCallNumber settings b (length old)) text old new held held (refusalNumber refusal)
     write-refused {refusal} e =
-        let n = refused-by number (length text) (sym (ap writer.answerOf e) ∙ answer) in
+        let n = writer-laws.answered-refused s b old r answer e in
         record {
           number-is = sym (tested ∙ n);
           text-is = after ∙ rw tested;
@@ -164,7 +114,7 @@ module _ (settings : List ℕ) (b : Block) (old : List ℕ) (long : settingsList
     pub write-done : {k : ℕ} → r ≡ answers.Length k
         → TextCall (writeCallNumber settings b (length old)) text old new held k 0
     write-done e =
-        let n = written-by number (length text) (sym (ap writer.answerOf e) ∙ answer) in
+        let n = writer-laws.answered-written s b old r answer e in
         text-done (tested ∙ n .0) (after ∙ rw (n .0)) (n .1)
 
 -- the way of `vedrogne_report` where there is room

@@ -15,7 +15,7 @@ use Rattle.vedrogne.specs.Interface.{
   iterationsOut,
   reasonOut,
 }
-use Rattle.vedrogne.specs.Texts.{settingsAfter, readMeaning, reportCallNumber}
+use Rattle.vedrogne.specs.TextCalls.{settingsAfter, readMeaning, reportCallNumber}
 
 -- the report's order; a seventh element is not read
 pub settings : settingsIn (1 ∷ 31 ∷ 16 ∷ 10 ∷ 2 ∷ 3 ∷ 99 ∷ [])

@@ -18,7 +18,7 @@ use Rattle.tally.specs.Tally.{tallyNumber, answerBy, counted}
 abbrev pub codeIn : ℕ → Code
 codeIn m = record { m = m }
 
--- ---- lists of numbers: how many elements of a list of settings, and of a tally, are read
+-- ---- lists of numbers: how many elements of a list of settings, and of a tally, are read or written
 
 abbrev pub settingsLength : ℕ
 settingsLength = 6

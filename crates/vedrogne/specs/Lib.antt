@@ -1,5 +1,5 @@
 pub mod Interface
 pub mod InterfaceLaws
-pub mod Texts
-pub mod TextLaws
+pub mod TextCalls
+pub mod TextCallLaws
 pub mod Cases

@@ -10,6 +10,7 @@ ghost use Prim.Native.Nat.{_≤_};
 ghost use lib.ListN.{length};
 ghost use Rattle.polar.specs.Code.{encodeNumber, encodeBlock, readOutNumber, readOutMessage};
 ghost use Rattle.channel.specs.Front.{frontNumber, frontLlrs};
+ghost use Rattle.settings.specs.Settings.{settingsList};
 ghost use Rattle.settings.specs.Slices.{slices};
 ghost use Rattle.decoder.specs.Decoder.{resultOf};
 ghost use Rattle.calls.specs.LentMemory.{writtenOver};
@@ -31,8 +32,8 @@ ghost use Rattle.vedrogne.specs.Interface.{
   DecodeCall,
   TalliedCall,
 };
-ghost use Rattle.vedrogne.specs.Texts.{settingsList, readMeaning, ReadCall};
-ghost use Rattle.vedrogne.specs.Texts.{writeCallNumber, reportCallNumber, TextCall};
+ghost use Rattle.vedrogne.specs.TextCalls.{readMeaning, ReadCall};
+ghost use Rattle.vedrogne.specs.TextCalls.{writeCallNumber, reportCallNumber, TextCall};
 use calls::Answer;
 use channel::Channel;
 use decoder::Outcome;
@@ -43,7 +44,8 @@ use report_writer::Written;
 use settings::Settings;
 use tally::Tally;
 
-// How many elements of a list of settings and of a tally are read, and the number that refuses a shorter list.
+// How many elements of a list of settings and of a tally are read or written, and the number that refuses a shorter
+// list.
 const SETTINGS_LENGTH: usize = 6;
 
 const TALLY_LENGTH: usize = 5;

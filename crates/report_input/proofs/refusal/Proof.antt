@@ -23,7 +23,7 @@ use Rattle.report_input.proofs.refusal.Lts as lts
 use Rattle.report_input.proofs.read_positions.Reads as read-positions-reads
 use Rattle.report_input.proofs.smaller.Reads as smaller-reads
 use Rattle.polar.proofs.power_of_two.Reads as power-of-two-reads
-use Rattle.report_input.proofs.block_refusal.Reads as block-refusal-reads
+use Rattle.report_input.proofs.decoder_refusal.Reads as decoder-refusal-reads
 
 small : (c : tie.After-power-of-two) → c .power-of-two .result ≤ 2 ^ 10
 small c = rw (c .power-of-two .ensures) (pow-mono (c .before .before .pre .2))
@@ -120,26 +120,26 @@ array-share-prefix-mask : tie.Need-array-share-prefix-mask
 array-share-prefix-mask c =
     omega (arith, c .before .smaller .ensures, told c .before .before .before .before .mask2 .given, small (size c))
 
-slice-aggregate-block-refusal : tie.Need-slice-aggregate-block-refusal
-slice-aggregate-block-refusal c = sym (length-take-le _ _ (array-share-prefix-mask (c .before)))
+slice-aggregate-decoder-refusal : tie.Need-slice-aggregate-decoder-refusal
+slice-aggregate-decoder-refusal c = sym (length-take-le _ _ (array-share-prefix-mask (c .before)))
 
 array-share-prefix-llr : tie.Need-array-share-prefix-llr
 array-share-prefix-llr c =
     let k = c .before in
     omega (arith, k .smaller2 .ensures, told k .before .before .before .llr2 .given, small (size k))
 
-slice-aggregate-block-refusal-2 : tie.Need-slice-aggregate-block-refusal-2
-slice-aggregate-block-refusal-2 c = sym (length-take-le _ _ (array-share-prefix-llr (c .before)))
+slice-aggregate-decoder-refusal-2 : tie.Need-slice-aggregate-decoder-refusal-2
+slice-aggregate-decoder-refusal-2 c = sym (length-take-le _ _ (array-share-prefix-llr (c .before)))
 
-block-refusal-requires : tie.Need-block-refusal-requires
-block-refusal-requires c κs = search needs
+decoder-refusal-requires : tie.Need-decoder-refusal-requires
+decoder-refusal-requires c κs = search needs
 
 returns-3 : tie.Need-returns-3
 returns-3 c =
     let k = c .before .before .before in
     let r = reading (told k) in
     let s = start r .args .settings in
-    c .block-refusal .ensures
+    c .decoder-refusal .ensures
     ∙ ap (blockNumber s) (held k)
     ∙ lines-number (start r .args .room) s _ (block r) _ (text r) (at-end (told k)) (k .before .before .if1 .left)
 
@@ -158,8 +158,8 @@ refusal-spec =
     smaller-requires
     smaller-requires-2
     array-share-prefix-mask
-    slice-aggregate-block-refusal
+    slice-aggregate-decoder-refusal
     array-share-prefix-llr
-    slice-aggregate-block-refusal-2
-    block-refusal-requires
+    slice-aggregate-decoder-refusal-2
+    decoder-refusal-requires
     returns-3)

@@ -9,7 +9,7 @@ use Rattle.format.specs.Texts.{positionLines}
 use Rattle.format.specs.Wrote.{Wrote}
 use Rattle.format.specs.WroteLaws.{wrote-then, wrote-room}
 use Rattle.report_input.specs.Input.{settingNames, positionNames, Block, blockOf}
-use Rattle.report_writer.specs.Writer.{valuesOf, positionValues, tidyText}
+use Rattle.report_writer.specs.Writer.{valuesOf, valuesAt, tidyText}
 use Rattle.report_writer.specs.RoomLaws.{
   block-accepted,
   few-positions,
@@ -95,7 +95,7 @@ position-lines-requires c κs =
     let slices = block-accepted (s first) (b first) number .slices in
     rw (c .power-of-two .ensures) (
       (few-positions (s first) (b first) number, slices .mask-long, slices .llr-long),
-      wrote-room (positionLines (positionValues (b first)) (2 ^ s first .m) 0) (three-lines written)
+      wrote-room (positionLines (valuesAt (b first)) (2 ^ s first .m) 0) (three-lines written)
           (omega (arith, tidy-length (s first) (b first) number, start first .pre .1)),
     )
 

@@ -13,12 +13,12 @@ use Rattle.format.specs.Texts.{positionLines}
 use Rattle.format.specs.TextLaws.{position-lines-next, position-lines-end}
 use Rattle.format.specs.WroteLaws.{Writing, writing-starts, writing-next, writing-ends, writing-room, writing-length}
 use Rattle.report_input.specs.Input.{blockOf}
-use Rattle.report_writer.specs.Writer.{positionValues}
+use Rattle.report_writer.specs.Writer.{valuesAt}
 use Rattle.report_writer.proofs.position_lines.Statement.{statement}
 use Rattle.report_writer.proofs.position_lines.Tie as tie
 
 abbrev linesOf : List ℕ → List ℤ → ℕ → ℕ → List ℕ
-linesOf mask llr = positionLines (positionValues (blockOf mask llr))
+linesOf mask llr = positionLines (valuesAt (blockOf mask llr))
 
 abbrev Inv-loop : tie.InvT-loop
 Inv-loop out₀ at n mask llr end₀ i₀ out end i =
@@ -38,7 +38,7 @@ module _ (c : tie.After-position-line-arg2 Inv-loop μ-loop) where
   i = turn .loop .i
 
   abbrev all : ℕ → List ℤ
-  all = positionValues (blockOf (start .args .mask .now) (start .args .llr .now))
+  all = valuesAt (blockOf (start .args .mask .now) (start .args .llr .now))
 
   -- the values of the line as the call is handed them
   abbrev handed : List ℤ
@@ -96,7 +96,7 @@ same-length c = writing-length (c .before .loop .inv .1)
 returns : tie.Need-returns Inv-loop μ-loop
 returns c =
     let a = c .before .before .before .before .args in
-    let values = positionValues (blockOf (a .mask .now) (a .llr .now)) in
+    let values = valuesAt (blockOf (a .mask .now) (a .llr .now)) in
     let last : c .before .loop .i ≡ a .n = omega arith in
     writing-ends (c .before .loop .inv .1)
     (ap (λ (k : ℕ). positionLines values (a .n - k) k) last ∙ position-lines-end values (a .n))

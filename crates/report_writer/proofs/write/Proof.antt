@@ -26,7 +26,7 @@ use Rattle.report_writer.proofs.write.Statement.{statement}
 use Rattle.report_writer.proofs.write.Tie as tie
 
 -- what the function is handed
-module _ (c : tie.After-block-refusal) where
+module _ (c : tie.After-decoder-refusal) where
   abbrev start : tie.Start
   start = c .before .before .before
 
@@ -41,15 +41,15 @@ module _ (c : tie.After-block-refusal) where
 
 -- where no number of the decoder applies
 module _ (c : tie.After-own) where
-  abbrev tested : tie.After-block-refusal
+  abbrev tested : tie.After-decoder-refusal
   tested = c .before .before .before
 
   number : blockNumber (s tested) (b tested) ≡ 0
-  number = sym (tested .block-refusal .ensures) ∙ ap numberOf (c .before .enum-told .given .1)
+  number = sym (tested .decoder-refusal .ensures) ∙ ap numberOf (c .before .enum-told .given .1)
 
 -- the text in the function's own memory
 module _ (c : tie.After-compose) where
-  abbrev call : tie.After-block-refusal
+  abbrev call : tie.After-decoder-refusal
   call = tested (c .before)
 
   abbrev text : List ℕ
@@ -67,8 +67,8 @@ module _ (c : tie.After-compose) where
   composed : take (c .compose .result) (c .compose .last .0) ≡ text
   composed = wrote-first (c .compose .ensures) (omega (arith, short, length-replicate {A = ℕ} longestTidyText 0))
 
-block-refusal-requires : tie.Need-block-refusal-requires
-block-refusal-requires c κs = search needs
+decoder-refusal-requires : tie.Need-decoder-refusal-requires
+decoder-refusal-requires c κs = search needs
 
 enum-known-refusal : tie.Need-enum-known-refusal
 enum-known-refusal c = search needs
@@ -109,7 +109,7 @@ returns-2 : tie.Need-returns-2
 returns-2 c =
     let t = c .before .before .before in
     let refused = c .before .refusal .given in
-    let e = sym (ap numberOf (refused .1)) ∙ t .block-refusal .ensures in
+    let e = sym (ap numberOf (refused .1)) ∙ t .decoder-refusal .ensures in
     (refused-answer (s t) (b t) (old t) (refused .0 .0) e, refused-text (s t) (b t) (old t) (refused .0 .0) e)
 
 same-length : tie.Need-same-length
@@ -131,7 +131,7 @@ pub write-spec : {M : Type 1} → statement M
 write-spec =
     tie.close
     (tie.spec
-    block-refusal-requires
+    decoder-refusal-requires
     enum-known-refusal
     enum-told
     slice-aggregate-compose

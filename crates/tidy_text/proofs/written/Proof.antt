@@ -1,28 +1,26 @@
 -- `written` meets its contract.
 use Prim.Native.Nat.{ℕ, _≤_}
-use mathlib.Core.Path.{_≡_, sym, ap, _∙_}
-use mathlib.Core.Bool.{Bool, true, false, true≢false}
+use mathlib.Core.Path.{_≡_, sym, _∙_}
 use mathlib.Core.List.{List}
 use native.Mathlib.Nat.{zero-add}
 use native.Mathlib.Omega.{arith}
 use lib.ListN.{length}
 use Rattle.calls.specs.LentMemoryLaws.{written-sets}
+use Rattle.calls.specs.NumberLaws.{refusal-positive}
 use Rattle.format.specs.TextLaws.{refusal-length}
 use Rattle.report_input.specs.Input.{Block, blockOf}
-use Rattle.report_writer.specs.Writer.{tidyText, WriteAnswer, wrote, rejected, answerOf}
-use Rattle.report_writer.specs.RoomLaws.{tidy-length, written-answer, written-text}
+use Rattle.report_writer.specs.Writer.{tidyText, writeNumber}
+use Rattle.report_writer.specs.RoomLaws.{
+  tidy-length,
+  written-number,
+  written-text,
+  answered-refused,
+  answered-written,
+}
 use Rattle.settings.specs.declared.Settings.{Settings}
 use borrow.Author.Needs.{needs}
 use Rattle.tidy_text.proofs.written.Statement.{statement}
 use Rattle.tidy_text.proofs.written.Tie as tie
-
-isWrote : WriteAnswer → Bool
-isWrote (wrote n) = true
-isWrote (rejected number) = false
-
-lengthIn : WriteAnswer → ℕ
-lengthIn (wrote n) = n
-lengthIn (rejected number) = number
 
 -- what the function is handed, and that the writer accepts it
 module _ (c : tie.After-write) where
@@ -41,8 +39,8 @@ module _ (c : tie.After-write) where
   fits : length (tidyText s b) ≤ length old
   fits = omega (arith, tidy-length s b (start .pre .0), start .pre .1)
 
-  answer : answerOf (c .write .result) ≡ wrote (length (tidyText s b))
-  answer = c .write .ensures .0 ∙ sym (written-answer s b old (start .pre .0) fits)
+  none : writeNumber s b (length old) ≡ 0
+  none = written-number s b old (start .pre .0) fits
 
 write-requires : tie.Need-write-requires
 write-requires c κs = search needs
@@ -63,12 +61,11 @@ same-length : tie.Need-same-length
 same-length c = search needs
 
 returns : tie.Need-returns
-unfolding lengthIn
 returns c =
     let told = c .before .length .given in
     let w = c .before .before .before .before .before in
     let text = tidyText (s w) (b w) in
-    let long : told .0 .0 ≡ length text = ap lengthIn (sym (ap answerOf (told .1)) ∙ answer w) in (
+    let long = answered-written (s w) (b w) (old w) (w .write .result) (w .write .ensures .0) (told .1) .1 in (
       record {
         new-is =
             w .write .ensures .1
@@ -83,11 +80,11 @@ same-length-2 : tie.Need-same-length-2
 same-length-2 c = search needs
 
 returns-2 : tie.Need-returns-2
-unfolding isWrote
 returns-2 c =
     let told = c .before .before .before .before .before in
     let w = told .before .before .before .before in
-    absurd (true≢false (ap isWrote (sym (answer w) ∙ ap answerOf (told .refusal .given .1))))
+    let number = answered-refused (s w) (b w) (old w) (w .write .result) (w .write .ensures .0) (told .refusal .given .1) in
+    absurd (refusal-positive (told .refusal .given .0 .0) (sym (none w) ∙ number))
 
 pub written-spec : {M : Type 1} → statement M
 written-spec =

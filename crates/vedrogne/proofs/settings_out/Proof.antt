@@ -2,7 +2,7 @@
 use native.Mathlib.Omega.{arith}
 use borrow.Author.Needs.{needs}
 use lib.ListN.{length-set}
-use Rattle.vedrogne.specs.TextLaws.{settings-stored}
+use Rattle.vedrogne.specs.TextCallLaws.{settings-stored}
 use Rattle.vedrogne.proofs.settings_out.Statement.{statement}
 use Rattle.vedrogne.proofs.settings_out.Tie as tie
 

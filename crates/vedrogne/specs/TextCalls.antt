@@ -1,12 +1,12 @@
 -- What the C functions on texts return and write: the reader, the writer and the report. Definitions only.
 use Prim.Native.Nat.{ℕ, zero, suc}
 use mathlib.Core.Path.{_≡_}
-use mathlib.Core.List.{List, [], _∷_}
+use mathlib.Core.List.{List}
 use lib.Dec.{leb}
 use lib.ListN.{length}
 use Rattle.calls.specs.LentMemory.{writtenOver, unlessRefused}
 use Rattle.calls.specs.Numbers.{check, firstRefusal}
-use Rattle.settings.specs.declared.Settings.{Settings}
+use Rattle.settings.specs.Settings.{settingsList}
 use Rattle.report_input.specs.Input.{Block, Meaning, refused, block, numberIn, meaningIn, roomOf, blockAfter}
 use Rattle.report_text.specs.Report.{reportRoom}
 use Rattle.report_writer.specs.Writer.{writeNumber}
@@ -14,15 +14,12 @@ use Rattle.vedrogne.specs.Interface.{settingsIn, settingsListNumber}
 
 -- ---- the reader
 
--- all settings, in the order of the report's first name line
-abbrev pub settingsList : Settings → List ℕ
-settingsList s = s .m ∷ s .ceiling ∷ s .scale ∷ s .limit ∷ s .criterion ∷ s .operand ∷ []
-
 -- 7 for a short list of settings comes before everything
 abbrev pub unlessShort : ℕ → Meaning → Meaning
 unlessShort zero means = means
 unlessShort (suc number) means = refused (suc number)
 
+-- the list of settings: all of them in its first elements, the old contents behind
 abbrev pub settingsAfter : Meaning → List ℕ → List ℕ
 settingsAfter (refused number) old = old
 settingsAfter (block s b) old = writtenOver (settingsList s) old
