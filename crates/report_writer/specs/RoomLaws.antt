@@ -1,7 +1,7 @@
 -- Laws of the writer's room: how long the text of an accepted block is at most; and what the writer answers and leaves,
 -- by its number.
 use Prim.Native.Nat.{ℕ, zero, suc, _+_, _-_, _^_, _≤_, _<_}
-use mathlib.Core.Path.{_≡_, refl, sym, ap, _∙_}
+use mathlib.Core.Path.{_≡_, refl, sym, ap, ap₂, _∙_}
 use mathlib.Core.Bool.{Bool, true, false, true≢false}
 use mathlib.Core.List.{List, [], _∷_, _++_}
 use native.Mathlib.Nat.{suc-add}
@@ -15,7 +15,7 @@ use Rattle.calls.specs.declared.Refusal.{Refusal}
 use Rattle.calls.specs.Bounds.{mostPositions, largestCeiling}
 use Rattle.calls.specs.EveryLaws.{every-at}
 use Rattle.calls.specs.LentMemory.{writtenOver, unlessRefused}
-use Rattle.calls.specs.Numbers.{refusalNumber, firstRefusal}
+use Rattle.calls.specs.Numbers.{refusalNumber, check, firstRefusal}
 use Rattle.calls.specs.NumberLaws.{between-passed, refused-first, refused-keeps}
 use Rattle.polar.specs.Mask.{isMaskByte}
 use Rattle.settings.specs.declared.Settings.{Settings}
@@ -196,10 +196,14 @@ module _ (s : Settings) (b : Block) (old : List ℕ) (r : Refusal) (e : refusalN
   pub refused-text : old ≡ textAfter s b old
   refused-text = sym (refused-keeps r _ old) ∙ ap (slice s b old) (sym number-first)
 
+-- the number, by the decoder's and whether the text has room
+abbrev numberBy : ℕ → Bool → ℕ
+numberBy number fits = firstRefusal number (check fits 7 0)
+
 module _ (s : Settings) (b : Block) (old : List ℕ) (e : blockNumber s b ≡ 0) where
   -- 7, for a slice that is too short
   short-number : length old < length (tidyText s b) → writeNumber s b (length old) ≡ 7
-  short-number h = rw (e, lt-leb (length (tidyText s b)) (length old) h)
+  short-number h = ap₂ numberBy e (lt-leb (length (tidyText s b)) (length old) h)
 
   pub short-answer : length old < length (tidyText s b) → rejected 7 ≡ writeAnswer s b old
   short-answer h = rw (short-number h)
@@ -209,7 +213,7 @@ module _ (s : Settings) (b : Block) (old : List ℕ) (e : blockNumber s b ≡ 0)
 
   -- the text, where it has room
   pub written-number : length (tidyText s b) ≤ length old → writeNumber s b (length old) ≡ 0
-  written-number h = rw (e, le-leb (length (tidyText s b)) (length old) h)
+  written-number h = ap₂ numberBy e (le-leb (length (tidyText s b)) (length old) h)
 
   pub written-answer : length (tidyText s b) ≤ length old → wrote (length (tidyText s b)) ≡ writeAnswer s b old
   written-answer h = rw (written-number h)
