@@ -78,7 +78,8 @@ module _ (room : Room) where
       split true true e f =
           let roomy : Roomy room (2 ^ s .m) =
           record { mask-room = leb-true _ _ e; llr-room = leb-true _ _ f } in
-          inl (ap (λ (x : Block). meaningBy (blockNumber s x) s b) (held-whole room (2 ^ s .m) b long roomy ∙ sym whole))
+          let same = held-whole room (2 ^ s .m) b long roomy ∙ sym whole in
+          inl (ap (λ (x : Block). meaningBy (blockNumber s x) s b) same)
       split false y e f = without (short-mask room s b (leb-false _ _ e))
       split true false e f = without (short-llr room s b (leb-false _ _ f))
 

@@ -1,7 +1,7 @@
 // The writer of the report's input: settings, mask and LLRs become the one text that they are written as.
 // It sees `report_input` for the decoder's tests, `format`, and the block length of `polar`; its definitions take the
-// names that the reader compares. It promises the text that request 2026-01 gives, from the first byte of the lent slice
-// on, its old contents behind, and the text's length; or the number of a refusal, where nothing is written.
+// names that the reader compares. It promises the text that request 2026-01 gives, from the first byte of the lent
+// slice on, its old contents behind, and the text's length; or the number of a refusal, where nothing is written.
 ghost use mathlib.Core.Path.{_≡_};
 ghost use mathlib.Core.List.{[], _∷_};
 ghost use Prim.Native.Nat.{_+_, _≤_};

@@ -25,7 +25,14 @@ use Rattle.report_writer.specs.Writer.{writeNumber, writeAnswer, tidyText, text
 use Rattle.report_writer.specs.Writer as writer
 use Rattle.report_writer.specs.RoomLaws as writer-laws
 use Rattle.vedrogne.specs.Interface.{settingsIn, settingsListNumber}
-use Rattle.vedrogne.specs.TextCalls.{settingsAfter, readMeaning, ReadCall, writeCallNumber, reportCallNumber, TextCall}
+use Rattle.vedrogne.specs.TextCalls.{
+  settingsAfter,
+  readMeaning,
+  ReadCall,
+  writeCallNumber,
+  reportCallNumber,
+  TextCall,
+}
 
 -- ---- the reader
 

@@ -83,7 +83,8 @@ returns-2 : tie.Need-returns-2
 returns-2 c =
     let told = c .before .before .before .before .before in
     let w = told .before .before .before .before in
-    let number = answered-refused (s w) (b w) (old w) (w .write .result) (w .write .ensures .0) (told .refusal .given .1) in
+    let number =
+    answered-refused (s w) (b w) (old w) (w .write .result) (w .write .ensures .0) (told .refusal .given .1) in
     absurd (refusal-positive (told .refusal .given .0 .0) (sym (none w) ∙ number))
 
 pub written-spec : {M : Type 1} → statement M
