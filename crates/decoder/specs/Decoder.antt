@@ -4,10 +4,12 @@ use Prim.Native.Nat.{ℕ, zero, suc, _-_, _^_}
 use mathlib.Core.Path.{_≡_}
 use mathlib.Core.Bool.{Bool, cond}
 use mathlib.Core.List.{List}
-use lib.IntN.{ℤ}
+use lib.IntN.{ℤ, pos}
 use lib.ListN.{getD}
 use Rattle.calls.specs.Numbers.{refusalNumber}
 use Rattle.calls.specs.LentMemory.{overwrite, unlessRefused}
+use Rattle.calls.specs.Signs.{flipped}
+use Rattle.polar.specs.Mask.{byKind}
 use Rattle.message.specs.declared.MinSum.{MinSum}
 use Rattle.message.specs.Message.{add}
 use Rattle.sweeps.specs.Workspace.{L, R}
@@ -24,17 +26,17 @@ use Rattle.decoder.specs.declared.Reason.the-variants as reason
 use Rattle.decoder.specs.declared.Outcome.{Outcome}
 use Rattle.decoder.specs.declared.Outcome.the-variants.{Ended, Refused}
 
--- ---- outputs: the soft output of position i is L(0, i) + R(0, i), the coded soft output L(m, i) + R(m, i),
--- both cut to the ceiling
+-- ---- outputs: the soft output of an information position i is L(0, i) + R(0, i), that of a frozen one C (2026-02);
+-- the coded soft output is L(m, i) + R(m, i). Both sums are cut to the ceiling
 
 -- the settings of the message arithmetic
 abbrev pub ruleOf : Settings → MinSum
 ruleOf s = record { ceiling = s .ceiling; scale = s .scale }
 
--- what a soft output is: by the position's mask byte, which makes no difference yet,
--- from the messages of both directions
+-- what a soft output is, by the position's mask byte: the sum of the messages of both directions, or, where the bit is
+-- certain, C with the sign of the frozen bit
 abbrev pub softOf : MinSum → ℕ → ℤ → ℤ → ℤ
-softOf rule kind left right = add rule left right
+softOf rule kind left right = byKind kind (add rule left right) (λ bit. flipped bit (pos (rule .ceiling)))
 
 abbrev pub softAt : Settings → List ℕ → List ℤ → ℕ → ℤ
 softAt s mask w i = softOf (ruleOf s) (getD mask i 0) (L (s .m) w 0 i) (R (s .m) w 0 i)

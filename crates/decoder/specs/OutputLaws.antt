@@ -1,32 +1,68 @@
--- Laws of the outputs: the size of a soft output, how a turned sign comes out of it, and slices that
--- take the outputs of a workspace.
-use Prim.Native.Nat.{ℕ, _^_, _≤_, _<_}
-use mathlib.Core.Path.{_≡_, refl, sym, subst}
-use mathlib.Core.Bool.{Bool, false}
+-- Laws of the outputs: the size of a soft output, what it is at either kind of position, how a turned sign comes out of
+-- it, and slices that take the outputs of a workspace.
+use Prim.Native.Nat.{ℕ, zero, suc, _^_, _≤_, _<_}
+use mathlib.Core.Path.{_≡_, refl, sym, ap, subst, _∙_}
+use mathlib.Core.Bool.{Bool, true, false}
 use mathlib.Core.List.{List}
+use native.Mathlib.Nat.{le-refl}
 use native.Mathlib.Omega.{arith}
-use lib.IntN.{ℤ, natAbs}
+use lib.IntN.{ℤ, pos, natAbs}
 use lib.ListN.{length, getD}
 use Rattle.calls.specs.LentMemoryLaws.{length-overwrite, overwrite-at, overwrite-twice}
 use Rattle.calls.specs.Signs.{flipped}
-use Rattle.message.specs.declared.MinSum.{MinSum}
-use Rattle.message.specs.MessageLaws.{add-size, add-flipped}
+use Rattle.calls.specs.SignLaws.{size-flipped}
 use Rattle.polar.specs.Mask.{isInformation}
+use Rattle.polar.specs.MaskLaws.{kind-information, kind-cond, kind-either}
+use Rattle.message.specs.declared.MinSum.{MinSum}
+use Rattle.message.specs.Message.{add}
+use Rattle.message.specs.MessageLaws.{add-size, add-flipped}
+use Rattle.sweeps.specs.Workspace.{L, R}
+use Rattle.criteria.specs.Marks.{markOf}
 use Rattle.settings.specs.declared.Settings.{Settings}
 use Rattle.settings.specs.declared.Lengths.{Lengths}
 use Rattle.settings.specs.Slices.{Slices, lengthsOf}
 use Rattle.settings.specs.SlicesLaws.{OutputsFit, slices-same}
-use Rattle.decoder.specs.Decoder.{softOf, softAt, markAt, codedSoftAt, codedMarkAt, outputsOf}
+use Rattle.decoder.specs.Decoder.{ruleOf, softOf, softAt, markAt, codedSoftAt, codedMarkAt, outputsOf}
 
 -- ---- a soft output
 
-pub soft-size : (rule : MinSum) (kind : ℕ) (left right : ℤ) → natAbs (softOf rule kind left right) ≤ rule .ceiling
-soft-size rule kind left right = add-size rule left right
+module _ (rule : MinSum) (kind : ℕ) (left right : ℤ) where
+  pub soft-size : natAbs (softOf rule kind left right) ≤ rule .ceiling
+  soft-size =
+      kind-either _ _ (λ (z : ℤ). natAbs z ≤ rule .ceiling) (add-size rule left right)
+      (λ bit. rw (size-flipped bit (pos (rule .ceiling))) (le-refl (rule .ceiling))) kind
+
+  -- at an information position it is the sum, at a frozen one C
+  pub soft-information : isInformation kind ≡ true → softOf rule kind left right ≡ add rule left right
+  soft-information = kind-information _ _ kind
+
+  pub soft-frozen : isInformation kind ≡ false → softOf rule kind left right ≡ pos (rule .ceiling)
+  soft-frozen frozen = kind-cond _ _ kind ∙ rw frozen
 
 -- the sign of both directions comes out of it; at a frozen position no sign is turned
 pub soft-flipped : (rule : MinSum) (kind : ℕ) (b : Bool) (left right : ℤ) → (isInformation kind ≡ false → b ≡ false)
     → softOf rule kind (flipped b left) (flipped b right) ≡ flipped b (softOf rule kind left right)
-soft-flipped rule kind b left right frozen = add-flipped rule b left right
+soft-flipped rule kind b left right frozen = by-kind (isInformation kind) refl
+  where
+    by-kind : (k : Bool) → isInformation kind ≡ k
+        → softOf rule kind (flipped b left) (flipped b right) ≡ flipped b (softOf rule kind left right)
+    by-kind true e =
+        soft-information rule kind (flipped b left) (flipped b right) e ∙ add-flipped rule b left right
+        ∙ ap (flipped b) (sym (soft-information rule kind left right e))
+    by-kind false e = rw (frozen e)
+
+-- ---- a frozen position, whatever the workspace holds: never tied, and never the mark of a 1
+
+mark-certain : (C : ℕ) → 1 ≤ C → markOf (pos C) ≡ 0
+mark-certain zero some = absurd (omega arith)
+mark-certain (suc n) some = refl
+
+module _ (s : Settings) (mask : List ℕ) (w : List ℤ) (i : ℕ) (frozen : isInformation (getD mask i 0) ≡ false) where
+  pub frozen-soft : softAt s mask w i ≡ pos (s .ceiling)
+  frozen-soft = soft-frozen (ruleOf s) (getD mask i 0) (L (s .m) w 0 i) (R (s .m) w 0 i) frozen
+
+  pub frozen-mark : 1 ≤ s .ceiling → markAt s mask w i ≡ 0
+  frozen-mark some = ap markOf frozen-soft ∙ mark-certain (s .ceiling) some
 
 -- ---- the outputs of a workspace
 

@@ -10,6 +10,7 @@ use lib.IntN.{ℤ, pos}
 use lib.ListN.{getD}
 use Rattle.calls.specs.LentMemoryLaws.{overwrite-at}
 use Rattle.calls.specs.Numbers.{check, firstRefusal}
+use Rattle.polar.specs.Mask.{isInformation}
 use Rattle.settings.specs.declared.Settings.{Settings}
 use Rattle.settings.specs.Settings.{largestLimit, settingsNumber}
 use Rattle.settings.specs.Slices.{Slices, lengthsOf}
@@ -33,6 +34,7 @@ use Rattle.decoder.specs.Decoder.{
   decodeResult,
   decodeSlices,
 }
+use Rattle.decoder.specs.OutputLaws.{frozen-soft, frozen-mark}
 
 abbrev pub DecoderAnswer : Result → Type 0
 DecoderAnswer (refused number) = (1 ≤ number) × (number ≤ 10)
@@ -127,3 +129,14 @@ module _ (s : Settings) (mask : List ℕ) (llr : List ℤ) (lent : Slices) (ok :
     codedMark-written =
         ap (λ (x : Slices). getD (x .codedMark) i 0) written
         ∙ overwrite-at (2 ^ s .m) _ (lent .codedMark) i 0 l (omega (arith, fits .codedMark))
+
+    -- at a frozen position the soft output is C and the mark 0
+    module _ (frozen : isInformation (getD mask i 0) ≡ false) where
+      pub frozen-soft-written : getD (decodeSlices s mask llr lent .soft) i (pos 0) ≡ pos (s .ceiling)
+      frozen-soft-written = soft-written ∙ frozen-soft s mask (final s mask llr (lent .work)) i frozen
+
+      pub frozen-mark-written : getD (decodeSlices s mask llr lent .mark) i 0 ≡ 0
+      frozen-mark-written =
+          mark-written
+          ∙ frozen-mark s mask (final s mask llr (lent .work)) i frozen
+          (accepted s mask llr (lengthsOf lent) ok .settings .ceiling-some)

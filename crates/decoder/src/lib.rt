@@ -91,14 +91,20 @@ fn criterion_of(settings: Settings) -> Criterion
     Criterion::Steady(operand)
 }
 
-// The soft output of a position from its mask byte and the messages of both directions. The
-// mask byte makes no difference yet.
+// The soft output of a position from its mask byte and the messages of both directions. Every frozen bit is a certain 0.
+// Both values are at hand, so that the loop around it chooses without a branch.
 fn soft_output(rule: MinSum, kind: u8, left: i16, right: i16) -> i16
     requires { ⌜ RuleInRange rule ⌝ }
     requires { ⌜ (natAbs left ≤ rule .ceiling) × (natAbs right ≤ rule .ceiling) ⌝ }
     ensures { λ r. ⌜ r ≡ softOf rule kind left right ⌝ }
 {
-    message::add_cut(rule, left, right)
+    let sum = message::add_cut(rule, left, right);
+    let certain = rule.ceiling as i16;
+    if polar::is_information(kind) {
+        sum
+    } else {
+        certain
+    }
 }
 
 // The soft outputs of a workspace, from column 0.
