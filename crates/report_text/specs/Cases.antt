@@ -23,8 +23,8 @@ abbrev blocks : List (List ℕ)
 blocks = bytes "0 1 5\n1 0 -3\n" ∷ bytes "0 1 3\n1 0 -3\n" ∷ bytes "0 1 5\n1 0 -32\n" ∷ bytes "0 1 5\n" ∷ []
 
 pub reports : map (λ block. report (names ++ block)) blocks
-    ≡ bytes "iterations reason\n1 1\nposition soft mark coded codedmark\n0 28 0 2 0\n1 2 0 2 0\n"
-    ∷ bytes "iterations reason\n10 2\nposition soft mark coded codedmark\n0 28 0 0 2\n1 0 2 0 2\n"
+    ≡ bytes "iterations reason\n1 1\nposition soft mark coded codedmark\n0 31 0 2 0\n1 2 0 2 0\n"
+    ∷ bytes "iterations reason\n10 2\nposition soft mark coded codedmark\n0 31 0 0 2\n1 0 2 0 2\n"
     ∷ bytes "refused\n10\n"
     ∷ bytes "refused\n14\n"
     ∷ []

@@ -1,6 +1,6 @@
--- Document 01, "Blocks worked by hand": P1 to P10 and the boundary values, and "Readings that look plausible". A
--- table of cases with the values worked by hand, and what the definitions of the contracts of decoder, coder and
--- front give for them. Computed facts.
+-- Document 01, "Blocks worked by hand": P1 to P10 and the boundary values as 2026-02 amends them, and "Readings that
+-- look plausible". A table of cases with the values worked by hand, and what the definitions of the contracts of
+-- decoder, coder and front give for them. Computed facts.
 use Prim.Native.Nat.{ℕ, zero, suc, _+_, _*_, _^_}
 use mathlib.Core.Path.{_≡_, refl}
 use mathlib.Core.List.{List, [], _∷_, _++_, map}
@@ -128,30 +128,29 @@ abbrev blocks : List Line
 blocks =
     -- P1. With the lower R in the second formula of L, soft output 1 would be -3
     line (block 1 16 10 1 0 (1 ∷ 0 ∷ []) (pos 5 ∷ minus 3 ∷ []))
-    (ends 1 1 (pos 28 ∷ pos 2 ∷ []) (0 ∷ 0 ∷ []) (pos 2 ∷ pos 2 ∷ []) (0 ∷ 0 ∷ []))
+    (ends 1 1 (pos 31 ∷ pos 2 ∷ []) (0 ∷ 0 ∷ []) (pos 2 ∷ pos 2 ∷ []) (0 ∷ 0 ∷ []))
     -- P2
     ∷ line (block 1 16 10 1 0 (1 ∷ 0 ∷ []) (minus 5 ∷ pos 3 ∷ []))
-    (ends 1 1 (pos 28 ∷ minus 2 ∷ []) (0 ∷ 1 ∷ []) (minus 2 ∷ minus 2 ∷ []) (1 ∷ 1 ∷ []))
-    -- P3. With the negative product -45 shifted by 4 places, soft output 0 would be 28
-    -- and coded soft output 0 would be 2
+    (ends 1 1 (pos 31 ∷ minus 2 ∷ []) (0 ∷ 1 ∷ []) (minus 2 ∷ minus 2 ∷ []) (1 ∷ 1 ∷ []))
+    -- P3. With the negative product -45 shifted by 4 places, coded soft output 0 would be 2
     ∷ line (block 1 15 10 1 0 (1 ∷ 0 ∷ []) (pos 5 ∷ minus 3 ∷ []))
-    (ends 1 1 (pos 29 ∷ pos 1 ∷ []) (0 ∷ 0 ∷ []) (pos 3 ∷ pos 1 ∷ []) (0 ∷ 0 ∷ []))
+    (ends 1 1 (pos 31 ∷ pos 1 ∷ []) (0 ∷ 0 ∷ []) (pos 3 ∷ pos 1 ∷ []) (0 ∷ 0 ∷ []))
     -- P4. With zero taken as positive, criterion 1 would hold at iteration 1
     ∷ line (block 1 16 10 1 0 (1 ∷ 0 ∷ []) (pos 3 ∷ minus 3 ∷ []))
-    (ends 10 2 (pos 28 ∷ pos 0 ∷ []) (0 ∷ 2 ∷ []) (pos 0 ∷ pos 0 ∷ []) (2 ∷ 2 ∷ []))
-    -- P5
+    (ends 10 2 (pos 31 ∷ pos 0 ∷ []) (0 ∷ 2 ∷ []) (pos 0 ∷ pos 0 ∷ []) (2 ∷ 2 ∷ []))
+    -- P5. The sum at position 1, which is frozen, is a tie
     ∷ line (block 1 16 10 1 0 (0 ∷ 1 ∷ []) (pos 7 ∷ minus 31 ∷ []))
-    (ends 10 2 (pos 0 ∷ pos 0 ∷ []) (2 ∷ 2 ∷ []) (pos 7 ∷ pos 0 ∷ []) (0 ∷ 2 ∷ []))
+    (ends 10 2 (pos 0 ∷ pos 31 ∷ []) (2 ∷ 0 ∷ []) (pos 7 ∷ pos 0 ∷ []) (0 ∷ 2 ∷ []))
     -- P6, operands 2 and 3. With "larger" for "at least", operand 2 would end at 10 with reason 2
     ∷ line (block 1 16 10 2 2 (1 ∷ 0 ∷ []) (pos 5 ∷ minus 3 ∷ []))
-    (ends 1 1 (pos 28 ∷ pos 2 ∷ []) (0 ∷ 0 ∷ []) (pos 2 ∷ pos 2 ∷ []) (0 ∷ 0 ∷ []))
+    (ends 1 1 (pos 31 ∷ pos 2 ∷ []) (0 ∷ 0 ∷ []) (pos 2 ∷ pos 2 ∷ []) (0 ∷ 0 ∷ []))
     ∷ line (block 1 16 10 2 3 (1 ∷ 0 ∷ []) (pos 5 ∷ minus 3 ∷ []))
-    (ends 10 2 (pos 28 ∷ pos 2 ∷ []) (0 ∷ 0 ∷ []) (pos 2 ∷ pos 2 ∷ []) (0 ∷ 0 ∷ []))
+    (ends 10 2 (pos 31 ∷ pos 2 ∷ []) (0 ∷ 0 ∷ []) (pos 2 ∷ pos 2 ∷ []) (0 ∷ 0 ∷ []))
     -- P7, T = 10 and T = 1
     ∷ line (block 1 16 10 3 1 (1 ∷ 0 ∷ []) (pos 5 ∷ minus 3 ∷ []))
-    (ends 2 1 (pos 28 ∷ pos 2 ∷ []) (0 ∷ 0 ∷ []) (pos 2 ∷ pos 2 ∷ []) (0 ∷ 0 ∷ []))
+    (ends 2 1 (pos 31 ∷ pos 2 ∷ []) (0 ∷ 0 ∷ []) (pos 2 ∷ pos 2 ∷ []) (0 ∷ 0 ∷ []))
     ∷ line (block 1 16 1 3 1 (1 ∷ 0 ∷ []) (pos 5 ∷ minus 3 ∷ []))
-    (ends 1 2 (pos 28 ∷ pos 2 ∷ []) (0 ∷ 0 ∷ []) (pos 2 ∷ pos 2 ∷ []) (0 ∷ 0 ∷ []))
+    (ends 1 2 (pos 31 ∷ pos 2 ∷ []) (0 ∷ 0 ∷ []) (pos 2 ∷ pos 2 ∷ []) (0 ∷ 0 ∷ []))
     -- P8
     ∷ line (block 2 16 10 1 0 (1 ∷ 1 ∷ 1 ∷ 0 ∷ []) (pos 1 ∷ pos 2 ∷ pos 3 ∷ pos 4 ∷ []))
     (ends 1 1 (pos 31 ∷ pos 31 ∷ pos 31 ∷ pos 6 ∷ []) (0 ∷ 0 ∷ 0 ∷ 0 ∷ []) (pos 7 ∷ pos 7 ∷ pos 9 ∷ pos 9 ∷ [])
@@ -162,22 +161,32 @@ blocks =
     -- P10, the samples 1 and -1 with the factor 1.5 and with the weight 0.25
     ∷ received (Gaussian (float 0x3fc0_0000)) (pos 2 ∷ minus 2 ∷ [])
     ∷ received (Flipping (float 0x3e80_0000)) (pos 0 ∷ pos 0 ∷ [])
-    -- two sums, each cut: L(0, 2) is -20 - 20, cut to -31, and soft output 2 is -31 + 31. Cut only once, it would be -9
-    ∷ line (block 2 16 1 0 0 (1 ∷ 1 ∷ 1 ∷ 0 ∷ []) (minus 20 ∷ pos 20 ∷ minus 20 ∷ pos 20 ∷ []))
-    (ends 1 2 (pos 20 ∷ pos 31 ∷ pos 0 ∷ pos 31 ∷ []) (0 ∷ 0 ∷ 2 ∷ 0 ∷ []) (minus 9 ∷ pos 29 ∷ minus 9 ∷ pos 29 ∷ [])
-    (1 ∷ 0 ∷ 1 ∷ 0 ∷ []))
+    -- two sums, each cut: R(2, 3) is 20 + 20, cut to 31, and coded soft output 3 is 31 - 20. Cut only once,
+    -- it would be 20
+    ∷ line (block 2 16 1 0 0 (1 ∷ 1 ∷ 1 ∷ 0 ∷ []) (pos 20 ∷ pos 20 ∷ pos 20 ∷ minus 20 ∷ []))
+    (ends 1 2 (pos 31 ∷ pos 31 ∷ pos 31 ∷ pos 0 ∷ []) (0 ∷ 0 ∷ 0 ∷ 2 ∷ []) (pos 20 ∷ pos 11 ∷ pos 20 ∷ pos 11 ∷ [])
+    (0 ∷ 0 ∷ 0 ∷ 0 ∷ []))
+    -- a block that the criteria end sooner than they would by the sums (2026-02). At iteration 2 the sum at position 3
+    -- is a tie, and criterion 1 would hold at 3
+    ∷ line (block 2 16 10 1 0 (1 ∷ 1 ∷ 0 ∷ 1 ∷ []) (minus 10 ∷ minus 10 ∷ minus 10 ∷ minus 10 ∷ []))
+    (ends 2 1 (pos 31 ∷ pos 31 ∷ minus 20 ∷ pos 31 ∷ []) (0 ∷ 0 ∷ 1 ∷ 0 ∷ [])
+    (minus 11 ∷ pos 11 ∷ minus 11 ∷ pos 11 ∷ []) (1 ∷ 0 ∷ 1 ∷ 0 ∷ []))
+    -- at iteration 1 it is 11, and criterion 2 with operand 20 would hold at 5
+    ∷ line (block 2 16 10 2 20 (1 ∷ 1 ∷ 0 ∷ 1 ∷ []) (minus 10 ∷ minus 10 ∷ minus 10 ∷ minus 10 ∷ []))
+    (ends 1 1 (pos 31 ∷ pos 31 ∷ pos 20 ∷ pos 31 ∷ []) (0 ∷ 0 ∷ 0 ∷ 0 ∷ []) (pos 0 ∷ pos 1 ∷ pos 0 ∷ pos 1 ∷ [])
+    (2 ∷ 0 ∷ 2 ∷ 0 ∷ []))
     -- LLRs of 31, -31, 32 and -32768
     ∷ line (block 1 16 10 1 0 (1 ∷ 0 ∷ []) (pos 31 ∷ minus 3 ∷ []))
-    (ends 1 1 (pos 28 ∷ pos 28 ∷ []) (0 ∷ 0 ∷ []) (pos 28 ∷ pos 28 ∷ []) (0 ∷ 0 ∷ []))
+    (ends 1 1 (pos 31 ∷ pos 28 ∷ []) (0 ∷ 0 ∷ []) (pos 28 ∷ pos 28 ∷ []) (0 ∷ 0 ∷ []))
     ∷ line (block 1 16 10 1 0 (1 ∷ 0 ∷ []) (minus 31 ∷ pos 3 ∷ []))
-    (ends 1 1 (pos 28 ∷ minus 28 ∷ []) (0 ∷ 1 ∷ []) (minus 28 ∷ minus 28 ∷ []) (1 ∷ 1 ∷ []))
+    (ends 1 1 (pos 31 ∷ minus 28 ∷ []) (0 ∷ 1 ∷ []) (minus 28 ∷ minus 28 ∷ []) (1 ∷ 1 ∷ []))
     ∷ line (block 1 16 10 1 0 (1 ∷ 0 ∷ []) (pos 32 ∷ minus 3 ∷ [])) (refuses 10)
     ∷ line (block 1 16 10 1 0 (1 ∷ 0 ∷ []) (pos 5 ∷ minus 32768 ∷ [])) (refuses 10)
     -- T = 200, by criterion 1 and to the limit, T = 0 and T = 201
     ∷ line (block 1 16 200 1 0 (1 ∷ 0 ∷ []) (pos 5 ∷ minus 3 ∷ []))
-    (ends 1 1 (pos 28 ∷ pos 2 ∷ []) (0 ∷ 0 ∷ []) (pos 2 ∷ pos 2 ∷ []) (0 ∷ 0 ∷ []))
+    (ends 1 1 (pos 31 ∷ pos 2 ∷ []) (0 ∷ 0 ∷ []) (pos 2 ∷ pos 2 ∷ []) (0 ∷ 0 ∷ []))
     ∷ line (block 1 16 200 0 0 (1 ∷ 0 ∷ []) (pos 5 ∷ minus 3 ∷ []))
-    (ends 200 2 (pos 28 ∷ pos 2 ∷ []) (0 ∷ 0 ∷ []) (pos 2 ∷ pos 2 ∷ []) (0 ∷ 0 ∷ []))
+    (ends 200 2 (pos 31 ∷ pos 2 ∷ []) (0 ∷ 0 ∷ []) (pos 2 ∷ pos 2 ∷ []) (0 ∷ 0 ∷ []))
     ∷ line (block 1 16 0 1 0 (1 ∷ 0 ∷ []) (pos 5 ∷ minus 3 ∷ [])) (refuses 4)
     ∷ line (block 1 16 201 1 0 (1 ∷ 0 ∷ []) (pos 5 ∷ minus 3 ∷ [])) (refuses 4)
     ∷ []
