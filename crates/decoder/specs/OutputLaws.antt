@@ -27,17 +27,17 @@ use Rattle.decoder.specs.Decoder.{ruleOf, softOf, softAt, markAt, codedS
 -- ---- a soft output
 
 module _ (rule : MinSum) (kind : ℕ) (left right : ℤ) where
-  pub soft-size : natAbs (softOf rule kind left right) ≤ rule .ceiling
-  soft-size =
-      kind-either _ _ (λ (z : ℤ). natAbs z ≤ rule .ceiling) (add-size rule left right)
-      (λ bit. rw (size-flipped bit (pos (rule .ceiling))) (le-refl (rule .ceiling))) kind
-
   -- at an information position it is the sum, at a frozen one C
   pub soft-information : isInformation kind ≡ true → softOf rule kind left right ≡ add rule left right
   soft-information = kind-information _ _ kind
 
   pub soft-frozen : isInformation kind ≡ false → softOf rule kind left right ≡ pos (rule .ceiling)
   soft-frozen frozen = kind-cond _ _ kind ∙ rw frozen
+
+  pub soft-size : natAbs (softOf rule kind left right) ≤ rule .ceiling
+  soft-size =
+      kind-either _ _ (λ (z : ℤ). natAbs z ≤ rule .ceiling) (add-size rule left right)
+      (λ bit. rw (size-flipped bit (pos (rule .ceiling))) (le-refl (rule .ceiling))) kind
 
 -- the sign of both directions comes out of it; at a frozen position no sign is turned
 pub soft-flipped : (rule : MinSum) (kind : ℕ) (b : Bool) (left right : ℤ) → (isInformation kind ≡ false → b ≡ false)
@@ -51,18 +51,18 @@ soft-flipped rule kind b left right frozen = by-kind (isInformation kind) refl
         ∙ ap (flipped b) (sym (soft-information rule kind left right e))
     by-kind false e = rw (frozen e)
 
--- ---- a frozen position, whatever the workspace holds: never tied, and never the mark of a 1
+-- ---- a frozen position, whatever the workspace holds: never tied, and never marked 1
 
 mark-certain : (C : ℕ) → 1 ≤ C → markOf (pos C) ≡ 0
 mark-certain zero some = absurd (omega arith)
 mark-certain (suc n) some = refl
 
 module _ (s : Settings) (mask : List ℕ) (w : List ℤ) (i : ℕ) (frozen : isInformation (getD mask i 0) ≡ false) where
-  pub frozen-soft : softAt s mask w i ≡ pos (s .ceiling)
-  frozen-soft = soft-frozen (ruleOf s) (getD mask i 0) (L (s .m) w 0 i) (R (s .m) w 0 i) frozen
+  pub frozen-soft-at : softAt s mask w i ≡ pos (s .ceiling)
+  frozen-soft-at = soft-frozen (ruleOf s) (getD mask i 0) (L (s .m) w 0 i) (R (s .m) w 0 i) frozen
 
-  pub frozen-mark : 1 ≤ s .ceiling → markAt s mask w i ≡ 0
-  frozen-mark some = ap markOf frozen-soft ∙ mark-certain (s .ceiling) some
+  pub frozen-mark-at : 1 ≤ s .ceiling → markAt s mask w i ≡ 0
+  frozen-mark-at some = ap markOf frozen-soft-at ∙ mark-certain (s .ceiling) some
 
 -- ---- the outputs of a workspace
 

@@ -34,7 +34,7 @@ use Rattle.decoder.specs.Decoder.{
   decodeResult,
   decodeSlices,
 }
-use Rattle.decoder.specs.OutputLaws.{frozen-soft, frozen-mark}
+use Rattle.decoder.specs.OutputLaws.{frozen-soft-at, frozen-mark-at}
 
 abbrev pub DecoderAnswer : Result → Type 0
 DecoderAnswer (refused number) = (1 ≤ number) × (number ≤ 10)
@@ -133,10 +133,10 @@ module _ (s : Settings) (mask : List ℕ) (llr : List ℤ) (lent : Slices) (ok :
     -- at a frozen position the soft output is C and the mark 0
     module _ (frozen : isInformation (getD mask i 0) ≡ false) where
       pub frozen-soft-written : getD (decodeSlices s mask llr lent .soft) i (pos 0) ≡ pos (s .ceiling)
-      frozen-soft-written = soft-written ∙ frozen-soft s mask (final s mask llr (lent .work)) i frozen
+      frozen-soft-written = soft-written ∙ frozen-soft-at s mask (final s mask llr (lent .work)) i frozen
 
       pub frozen-mark-written : getD (decodeSlices s mask llr lent .mark) i 0 ≡ 0
       frozen-mark-written =
           mark-written
-          ∙ frozen-mark s mask (final s mask llr (lent .work)) i frozen
+          ∙ frozen-mark-at s mask (final s mask llr (lent .work)) i frozen
           (accepted s mask llr (lengthsOf lent) ok .settings .ceiling-some)

@@ -1,16 +1,30 @@
 -- Document 01, "Message and outcome", whole: from samples to marks, how well a block is decoded does not depend on the
--- message sent. First for any front that is odd in its samples, then for document 01's.
-use Prim.Native.Nat.{ℕ, _^_}
-use mathlib.Core.Path.{_≡_, sym, ap, _∙_}
+-- message sent. First for any front that is odd in its samples, then for document 01's. And 2026-02: a frozen position
+-- is right in every run.
+use Prim.Native.Nat.{ℕ, _^_, _<_}
+use mathlib.Core.Path.{_≡_, sym, ap, ap₂, _∙_}
+use mathlib.Core.Bool.{false}
 use mathlib.Core.List.{List}
-use lib.ListN.{length}
+use lib.ListN.{length, getD}
 use lib.Ieee.{Float}
 use Rattle.polar.specs.Code.{uBit, encodeNumber}
+use Rattle.polar.specs.Mask.{isInformation}
 use Rattle.channel.specs.declared.Channel.{Channel}
 use Rattle.settings.specs.declared.Settings.{Settings}
+use Rattle.decoder.specs.ResultLaws.{frozen-mark-written}
 use Rattle.independence.specs.Front.{Front, OddFront, channelFront}
-use Rattle.independence.specs.Verdict.{verdict}
-use Rattle.independence.specs.Alike.{RunSlices, SameLengths, frontIn, llrsIn, codedBitOf, sentBit, Alike}
+use Rattle.independence.specs.Verdict.{right, verdict}
+use Rattle.independence.specs.Alike.{
+  RunSlices,
+  SameLengths,
+  frontIn,
+  llrsIn,
+  decoderIn,
+  marksIn,
+  codedBitOf,
+  sentBit,
+  Alike,
+}
 use Rattle.independence.specs.Outcome.{verdict-flipped}
 use Rattle.independence.specs.Runs.{
   Calls,
@@ -65,3 +79,12 @@ pub message-independence : (s : Settings) (channel : Channel) (mask message bloc
     → Alike (channelFront s channel) s mask message block samples first second
 message-independence s channel mask message block samples first second =
     front-independence (channelFront s channel) s mask message block samples first second (channel-odd s channel)
+
+-- in either run, and in any other: a frozen position is never tied and never wrong, whatever the message
+pub frozen-right : {Samples : Type 0} (front : Front Samples) (s : Settings) (mask message : List ℕ) (samples : Samples)
+    (lent : RunSlices) → decoderIn front s mask samples lent ≡ 0
+    → (i : ℕ) → i < 2 ^ s .m → isInformation (getD mask i 0) ≡ false
+    → verdict (uBit mask message i) (marksIn front s mask samples lent i) ≡ right
+frozen-right front s mask message samples lent accepted i h frozen =
+    ap₂ verdict (frozen-zero mask message i frozen)
+    (frozen-mark-written s mask (llrsIn front s mask samples lent) (lent .slices) accepted i h frozen)
