@@ -100,7 +100,7 @@ pub fn decode_wide(settings: &Settings, mask: &[i64], llr: &[i64]) -> Result<Dec
     let mut reason = 2;
     while reason == 2 && (history.len() as i64) < settings.limit {
         messages.iterate();
-        history.push(Outputs::of(&messages));
+        history.push(Outputs::of(mask, &messages));
         if holds(settings.criterion, settings.operand, &information, &history) {
             reason = 1;
         }

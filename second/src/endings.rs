@@ -13,20 +13,28 @@ pub struct Outputs {
 }
 
 impl Outputs {
-    /// Reads the outputs off the messages.
-    pub fn of(messages: &Messages) -> Self {
-        let column = |s: usize| -> Vec<i64> {
-            let pairs = messages.left[s].iter().zip(&messages.right[s]);
-            pairs.map(|(&l, &r)| messages.sum(l, r)).collect()
-        };
-        let soft = column(0);
-        let coded_soft = column(messages.left.len() - 1);
+    /// Reads the outputs of a block with this mask off its messages.
+    pub fn of(mask: &[i64], messages: &Messages) -> Self {
+        let values = mask.iter().zip(messages.sums(0));
+        let soft: Vec<i64> = values
+            .map(|(&value, sum)| soft_output(value, sum, messages.ceiling))
+            .collect();
+        let coded_soft = messages.sums(messages.left.len() - 1);
         Outputs {
             mark: soft.iter().map(|&v| mark_of(v)).collect(),
             coded_mark: coded_soft.iter().map(|&v| mark_of(v)).collect(),
             soft,
             coded_soft,
         }
+    }
+}
+
+/// The soft output of a position by its mask value: the sum of its messages
+/// where it carries information; a frozen bit is certain.
+fn soft_output(mask: i64, sum: i64, ceiling: i64) -> i64 {
+    match mask {
+        0 => sum,
+        _ => ceiling,
     }
 }
 

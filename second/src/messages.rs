@@ -3,7 +3,7 @@
 /// All messages of one block: `left[s][i]` is L(s,i), `right[s][i]` is R(s,i).
 pub struct Messages {
     m: usize,
-    ceiling: i64,
+    pub ceiling: i64,
     scale: i64,
     pub left: Vec<Vec<i64>>,
     pub right: Vec<Vec<i64>>,
@@ -29,6 +29,12 @@ impl Messages {
     /// A sum, cut to the ceiling.
     pub fn sum(&self, a: i64, b: i64) -> i64 {
         (a + b).clamp(-self.ceiling, self.ceiling)
+    }
+
+    /// Both messages of each position of column s, added.
+    pub fn sums(&self, s: usize) -> Vec<i64> {
+        let pairs = self.left[s].iter().zip(&self.right[s]);
+        pairs.map(|(&l, &r)| self.sum(l, r)).collect()
     }
 
     /// The scaled smaller size with the product of the signs; 0 with a zero.

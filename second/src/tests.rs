@@ -1,4 +1,5 @@
-//! The blocks worked by hand in the paper, and the orders of its refusals.
+//! The blocks worked by hand in the paper as the change requests amend them,
+//! frozen positions, and the orders of refusals.
 
 use crate::*;
 
@@ -54,7 +55,7 @@ fn ended(iterations: u32, reason: u32) -> Result<Ending, Refusal> {
 fn p1() {
     let run = run(USUAL, P1_MASK, P1_LLR);
     assert_eq!(run.answer, ended(1, 1));
-    assert_eq!(run.soft, [28, 2]);
+    assert_eq!(run.soft, [31, 2]);
     assert_eq!(run.mark, [0, 0]);
     assert_eq!(run.coded_soft, [2, 2]);
     assert_eq!(run.coded_mark, [0, 0]);
@@ -67,24 +68,29 @@ fn p1() {
 fn p2() {
     let run = run(USUAL, P1_MASK, &[-5, 3]);
     assert_eq!(run.answer, ended(1, 1));
-    assert_eq!(run.soft, [28, -2]);
-    assert_eq!(run.coded_soft, [-2, -2]);
+    assert_eq!(run.soft, [31, -2]);
     assert_eq!(run.mark, [0, 1]);
+    assert_eq!(run.coded_soft, [-2, -2]);
+    assert_eq!(run.coded_mark, [1, 1]);
 }
 
 #[test]
 fn p3() {
     let settings = Settings { scale: 15, ..USUAL };
     let run = run(settings, P1_MASK, P1_LLR);
-    assert_eq!(run.soft, [29, 1]);
+    assert_eq!(run.answer, ended(1, 1));
+    assert_eq!(run.soft, [31, 1]);
+    assert_eq!(run.mark, [0, 0]);
     assert_eq!(run.coded_soft, [3, 1]);
+    assert_eq!(run.coded_mark, [0, 0]);
 }
 
 #[test]
 fn p4() {
     let run = run(USUAL, P1_MASK, &[3, -3]);
     assert_eq!(run.answer, ended(10, 2));
-    assert_eq!(run.soft, [28, 0]);
+    assert_eq!(run.soft, [31, 0]);
+    assert_eq!(run.mark, [0, 2]);
     assert_eq!(run.coded_soft, [0, 0]);
     assert_eq!(run.coded_mark, [2, 2]);
 }
@@ -92,8 +98,13 @@ fn p4() {
 #[test]
 fn p5() {
     let run = run(USUAL, &[0, 1], &[7, -31]);
-    assert_eq!(run.soft, [0, 0]);
-    assert_eq!(run.mark, [2, 2]);
+    assert_eq!(run.answer, ended(10, 2));
+    assert_eq!(run.soft, [0, 31]);
+    assert_eq!(run.mark, [2, 0]);
+    assert_eq!(run.coded_soft, [7, 0]);
+    assert_eq!(run.coded_mark, [0, 2]);
+    // The messages of the frozen position still add up to 0.
+    assert_eq!(run.work[..8], [0, -31, 7, -31, 0, 31, 0, 31]);
 }
 
 #[test]
@@ -146,6 +157,89 @@ fn p10() {
     let channel = Channel::Flipping(0.25);
     assert_eq!(front(1, 31, channel, &[1.0, -1.0], &mut llr), Ok(()));
     assert_eq!(llr, [0, 0]);
+}
+
+/// Position 3 of four carries information.
+const LAST_OF_FOUR: &[u8] = &[1, 1, 1, 0];
+
+/// L(0,i) + R(0,i) as the workspace has them at the end, cut to the ceiling.
+fn sums(settings: &Settings, run: &Run) -> Vec<i16> {
+    let n = run.soft.len();
+    let (left, right) = (&run.work[..n], &run.work[(settings.m as usize + 1) * n..]);
+    let ceiling = settings.ceiling as i16;
+    let sum = |(l, r): (&i16, &i16)| (l + r).clamp(-ceiling, ceiling);
+    left.iter().zip(right).map(sum).collect()
+}
+
+#[test]
+fn criterion_1_sees_no_tie_at_a_frozen_position() {
+    // Iteration 2 has a tie among the sums, iteration 3 would have none.
+    let settings = Settings { m: 2, ..USUAL };
+    let four = run(settings, LAST_OF_FOUR, &[20, -10, 20, -10]);
+    assert_eq!(four.answer, ended(2, 1));
+    assert_eq!(sums(&settings, &four), [20, 31, 0, 20]);
+    assert_eq!(four.soft, [31, 31, 31, 20]);
+    assert_eq!(four.mark, [0; 4]);
+    assert_eq!(four.coded_soft, [20, 11, 20, 11]);
+    // The same with a scale below 16.
+    let settings = Settings {
+        scale: 15,
+        ..settings
+    };
+    let scaled = run(settings, &[1, 1, 0, 1], &[-21, -16, -8, -8]);
+    assert_eq!(scaled.answer, ended(2, 1));
+    assert_eq!(sums(&settings, &scaled), [31, 16, -10, 0]);
+    assert_eq!(scaled.soft, [31, 31, -10, 31]);
+    assert_eq!(scaled.mark, [0, 0, 1, 0]);
+    // Every even iteration has a tie among the sums, and no odd one agrees
+    // with its coded marks: the sums would go on to the limit.
+    let settings = Settings {
+        m: 3,
+        ceiling: 5,
+        ..USUAL
+    };
+    let mask = &[1, 1, 1, 1, 1, 1, 1, 0];
+    let eight = run(settings, mask, &[-2, 1, -3, 1, -2, 2, -4, -1]);
+    assert_eq!(eight.answer, ended(2, 1));
+    assert_eq!(sums(&settings, &eight), [4, 5, 4, 5, 2, 5, 0, -5]);
+    assert_eq!(eight.soft, [5, 5, 5, 5, 5, 5, 5, -5]);
+    assert_eq!(eight.mark, [0, 0, 0, 0, 0, 0, 0, 1]);
+    assert_eq!(eight.coded_mark, [1; 8]);
+}
+
+#[test]
+fn criterion_2_finds_the_ceiling_at_a_frozen_position() {
+    // The first sum stays at 11, or at 0: the sums would go on to the limit.
+    for (first, operands) in [(-20, 12..=31), (-31, 1..=31)] {
+        for operand in operands {
+            let settings = Settings {
+                m: 2,
+                criterion: 2,
+                operand,
+                ..USUAL
+            };
+            let run = run(settings, LAST_OF_FOUR, &[first, 31, 31, 31]);
+            assert_eq!(run.answer, ended(1, 1));
+            assert_eq!(sums(&settings, &run), [31 + first, 31, 31, 31]);
+            assert_eq!(run.soft, [31; 4]);
+        }
+    }
+}
+
+#[test]
+fn criterion_3_looks_at_information_positions() {
+    // Position 2 has a tie among the sums at iteration 2 alone; the marks of
+    // position 3 are 1, 0, 0, 0.
+    for (operand, iterations) in [(1, 3), (2, 4)] {
+        let settings = Settings {
+            m: 2,
+            criterion: 3,
+            operand,
+            ..USUAL
+        };
+        let run = run(settings, LAST_OF_FOUR, &[20, -10, 20, -10]);
+        assert_eq!(run.answer, ended(iterations, 1));
+    }
 }
 
 #[test]

@@ -13,7 +13,7 @@ fn report_of(text: &str) -> String {
 #[test]
 fn worked_text() {
     let expected = "iterations reason\n1 1\nposition soft mark coded codedmark\n\
-                    0 28 0 2 0\n1 2 0 2 0\n";
+                    0 31 0 2 0\n1 2 0 2 0\n";
     assert_eq!(report_of(WORKED), expected);
 }
 
