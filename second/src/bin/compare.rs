@@ -26,6 +26,8 @@ mod foreign;
 #[cfg(not(any(archive, feature = "selftest")))]
 #[path = "compare/unlinked.rs"]
 mod foreign;
+#[path = "compare/frozen.rs"]
+mod frozen;
 #[path = "compare/generate.rs"]
 mod generate;
 #[path = "compare/judge.rs"]

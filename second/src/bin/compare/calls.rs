@@ -1,6 +1,8 @@
 //! The calls of the C interface as data, and how the second library answers.
 
+use crate::frozen::uncertain;
 use crate::memory::{Fenced, Memory};
+use crate::plan::{CEILING, M};
 use second::{Channel, Ending, Lent, Refusal, Settings, Tally};
 
 #[derive(Clone)]
@@ -62,6 +64,12 @@ pub trait Call: Clone {
     fn foreign(&mut self) -> u32;
     /// The answer of the second library.
     fn second(&mut self) -> u32;
+
+    /// What is said of every accepted call on its own and does not hold of this
+    /// one, as it was left, in lines; nothing where all holds.
+    fn broken(&self) -> String {
+        String::new()
+    }
 
     /// Every piece of memory that the call can reach.
     fn memories(&self) -> Vec<Memory> {
@@ -211,6 +219,13 @@ impl Call for DecodeCall {
                 0
             }
         }
+    }
+
+    fn broken(&self) -> String {
+        let settings = self.settings.slice();
+        let mask = &self.mask.slice()[..1 << settings[M]];
+        let (soft, mark) = (self.soft.slice(), self.mark.slice());
+        uncertain(i64::from(settings[CEILING]), mask, soft, mark)
     }
 }
 

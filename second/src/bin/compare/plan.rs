@@ -1,5 +1,6 @@
 //! Good blocks to decode: settings, mask and LLRs that nobody refuses.
 
+use crate::frozen::let_it_matter;
 use crate::rng::Rng;
 use second::decode::{decode_wide, Decoded};
 use second::Settings;
@@ -82,8 +83,10 @@ pub fn good_plan(rng: &mut Rng, m: i64) -> Plan {
         mask,
         llr,
     };
-    if m <= 8 && rng.chance(35) {
-        aim(rng, &mut plan);
+    match rng.below(100) {
+        0..=34 if m <= 8 => aim(rng, &mut plan),
+        35..=44 if (2..=5).contains(&m) => let_it_matter(rng, &mut plan),
+        _ => {}
     }
     plan
 }
@@ -154,7 +157,7 @@ fn best_positions(n: usize, k: usize) -> Vec<i64> {
 
 fn draw_llr(rng: &mut Rng, mask: &[i64], ceiling: i64) -> Vec<i64> {
     let n = mask.len();
-    match rng.below(10) {
+    match rng.below(12) {
         0 => vec![0; n],
         1 => (0..n).map(|_| rng.pick(&[-ceiling, 0, ceiling])).collect(),
         2 => {
@@ -166,16 +169,22 @@ fn draw_llr(rng: &mut Rng, mask: &[i64], ceiling: i64) -> Vec<i64> {
             let mut one = |_| i64::from(rng.chance(percent)) * rng.between(-ceiling, ceiling);
             (0..n).map(&mut one).collect()
         }
-        4..=6 => noisy_block(rng, mask, ceiling),
+        4..=6 => noisy_block(rng, mask, ceiling, 0),
+        7 | 8 => {
+            let against = rng.pick(&[10, 50, 100]);
+            noisy_block(rng, mask, ceiling, against)
+        }
         _ => (0..n).map(|_| rng.between(-ceiling, ceiling)).collect(),
     }
 }
 
-/// The block of a random message, with noise.
-fn noisy_block(rng: &mut Rng, mask: &[i64], ceiling: i64) -> Vec<i64> {
+/// The block of a random word, with noise. So many of a hundred frozen
+/// positions carry a 1, which no coder sends.
+pub fn noisy_block(rng: &mut Rng, mask: &[i64], ceiling: i64, against: usize) -> Vec<i64> {
+    let ones = |frozen| if frozen == 1 { against } else { 50 };
     let u: Vec<u8> = mask
         .iter()
-        .map(|&frozen| if frozen == 1 { 0 } else { rng.below(2) as u8 })
+        .map(|&frozen| u8::from(rng.chance(ones(frozen))))
         .collect();
     let strength = rng.between(1, ceiling);
     let noise = rng.between(strength / 2, 2 * strength);

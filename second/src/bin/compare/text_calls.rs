@@ -1,7 +1,9 @@
 //! The calls of the C interface that read and write texts.
 
 use crate::calls::{settings_of, Argument, Call};
+use crate::frozen::uncertain_report;
 use crate::memory::Fenced;
+use second::text::accepted;
 use second::Refusal;
 
 /// The report's output needs a slice of this length, whatever it is.
@@ -125,6 +127,14 @@ impl Call for ReportCall {
         self.out.slice_mut()[..report.len()].copy_from_slice(&report);
         self.written.slice_mut()[0] = report.len();
         0
+    }
+
+    fn broken(&self) -> String {
+        let block = accepted(self.text.slice());
+        block.map_or_else(
+            |_| String::new(),
+            |block| uncertain_report(&block, self.report_written()),
+        )
     }
 }
 
