@@ -39,7 +39,7 @@ fn soft_output(mask: i64, sum: i64, ceiling: i64) -> i64 {
 }
 
 /// 0 for a positive value, 1 for a negative one, 2 (a tie) for zero.
-fn mark_of(value: i64) -> u8 {
+pub fn mark_of(value: i64) -> u8 {
     match value {
         1.. => 0,
         0 => 2,

@@ -14,7 +14,7 @@ pub fn report(input: &[u8]) -> Vec<u8> {
 }
 
 /// The output text of a decoded block.
-fn print(decoded: &Decoded) -> String {
+pub fn print(decoded: &Decoded) -> String {
     let ending = decoded.ending;
     let mut text = format!(
         "iterations reason\n{} {}\nposition soft mark coded codedmark\n",

@@ -3,7 +3,7 @@
 //! Run by `cargo test --release --features selftest`.
 #![cfg(feature = "selftest")]
 
-use std::process::Command;
+use std::process::{Command, Output};
 
 const FAULTS: &[&str] = &[
     "message_first",
@@ -42,40 +42,67 @@ const FAULTS: &[&str] = &[
     "no_line_end",
     "report_room",
     "report_number",
+    "information_certain",
+    "frozen_sum",
+    "frozen_sum_save_tie",
+    "frozen_minus",
+    "frozen_mark",
+    "frozen_coded",
+    "frozen_column",
+    "criterion_1_sums",
+    "criterion_2_sums",
+    "report_sums",
+];
+
+/// Faults that break what is said of a call on its own.
+const UNCERTAIN: &[&str] = &[
+    "frozen_sum",
+    "frozen_sum_save_tie",
+    "frozen_minus",
+    "frozen_mark",
+    "report_sums",
 ];
 
 const REPORT: &str = env!("CARGO_BIN_EXE_report");
 const TIDY: &str = env!("CARGO_BIN_EXE_tidy");
 
-fn exit_code(fault: &str, report: &str, tidy: &str) -> Option<i32> {
+fn run(fault: &str, report: &str, tidy: &str) -> Output {
     let mut command = Command::new(env!("CARGO_BIN_EXE_compare"));
     command.env("VEDROGNE_WRONG", fault);
     let output = command.args(["7", "3000", report, tidy]).output();
-    output.expect("compare runs").status.code()
+    output.expect("compare runs")
+}
+
+fn exit_code(report: &str, tidy: &str) -> Option<i32> {
+    run("", report, tidy).status.code()
 }
 
 #[test]
 fn no_fault_no_difference() {
-    assert_eq!(exit_code("", REPORT, TIDY), Some(0));
+    assert_eq!(exit_code(REPORT, TIDY), Some(0));
 }
 
 #[test]
 fn every_fault_is_found() {
     for fault in FAULTS {
-        assert_eq!(exit_code(fault, REPORT, TIDY), Some(1), "{fault}");
+        let output = run(fault, REPORT, TIDY);
+        assert_eq!(output.status.code(), Some(1), "{fault}");
+        let told = String::from_utf8_lossy(&output.stdout);
+        let uncertain = told.contains("a frozen position is not certain");
+        assert_eq!(uncertain, UNCERTAIN.contains(fault), "{fault}");
     }
 }
 
 #[test]
 fn a_wrong_report_is_found() {
     for program in ["/bin/cat", "/bin/true", TIDY] {
-        assert_eq!(exit_code("", program, TIDY), Some(1), "{program}");
+        assert_eq!(exit_code(program, TIDY), Some(1), "{program}");
     }
 }
 
 #[test]
 fn a_wrong_tidy_text_is_found() {
     for program in ["/bin/cat", "/bin/true", REPORT] {
-        assert_eq!(exit_code("", REPORT, program), Some(1), "{program}");
+        assert_eq!(exit_code(REPORT, program), Some(1), "{program}");
     }
 }

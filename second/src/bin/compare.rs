@@ -49,6 +49,9 @@ mod runs;
 #[path = "compare/selftest.rs"]
 mod selftest;
 #[cfg(feature = "selftest")]
+#[path = "compare/selftest_frozen.rs"]
+mod selftest_frozen;
+#[cfg(feature = "selftest")]
 #[path = "compare/selftest_texts.rs"]
 mod selftest_texts;
 #[path = "compare/show.rs"]

@@ -2,6 +2,7 @@
 //! without the other one. The environment variable VEDROGNE_WRONG names a
 //! fault that it then has; `compare` must find each of them.
 
+use crate::selftest_frozen;
 use second::{Channel, Lent, Refusal, Settings, Tally};
 use std::slice::{from_raw_parts, from_raw_parts_mut};
 use std::sync::OnceLock;
@@ -197,7 +198,7 @@ impl Decoding<'_> {
             settings.check()?;
             return Err(Refusal::Llr);
         }
-        let mut ending = second::decode(settings, self.mask, self.llr, &mut self.lent)?;
+        let mut ending = selftest_frozen::decode(settings, self.mask, self.llr, &mut self.lent)?;
         if wrong("reason_at_limit") && i64::from(ending.iterations) == settings.limit {
             ending.reason = 2;
         }

@@ -1,6 +1,7 @@
 //! `selftest` for the calls that read and write texts.
 
 use crate::selftest::{slice, slice_mut, wrong};
+use crate::selftest_frozen::report_of_sums;
 use crate::text_calls::REPORT_ROOM;
 use second::code::{require_lengths, widen};
 use second::text::{accepted, Block, SETTING_NAMES};
@@ -174,7 +175,11 @@ unsafe extern "C" fn vedrogne_report(
     if out.len() + usize::from(wrong("report_room")) < REPORT_ROOM {
         return 7;
     }
-    let report = second::report(text);
+    let report = if wrong("report_sums") {
+        report_of_sums(text)
+    } else {
+        second::report(text)
+    };
     out[..report.len()].copy_from_slice(&report);
     *written = report.len();
     // Wrong: a refused text's number is returned.
