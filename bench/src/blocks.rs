@@ -68,7 +68,9 @@ pub fn decode(block: &super::Block, limit: u32, soft: &mut [i16], work: &mut [i1
     for _ in 0..limit {
         iterate(left, right, m, top, k);
     }
-    for (soft, (left, right)) in soft.iter_mut().zip(left.iter().zip(right.iter())).take(n) {
-        *soft = add(*left, *right, top);
+    let sums = left[..n].iter().zip(&right[..n]);
+    let sums = sums.map(|(left, right)| add(*left, *right, top));
+    for ((soft, frozen), sum) in soft.iter_mut().zip(&block.mask).zip(sums) {
+        *soft = if *frozen == 1 { top } else { sum };
     }
 }

@@ -51,6 +51,10 @@ pub fn decode(block: &super::Block, limit: u32, soft: &mut [i16], work: &mut [i1
         iterate(work, m, top, k);
     }
     for i in 0..n {
-        soft[i] = add(work[i], work[(m + 1) * n + i], top);
+        soft[i] = if block.mask[i] == 1 {
+            top
+        } else {
+            add(work[i], work[(m + 1) * n + i], top)
+        };
     }
 }
