@@ -16,6 +16,7 @@ pub struct Block {
 }
 
 /// What a decoder leaves.
+#[derive(PartialEq)]
 pub struct Lent {
     pub soft: Vec<i16>,
     pub mark: Vec<u8>,

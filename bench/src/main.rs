@@ -20,8 +20,20 @@ fn run(which: usize, block: &Block, limit: u32, to: &mut Lent) {
     }
 }
 
+/// The proved decoder and the baseline end at the same iteration and leave the same soft outputs, marks, coded ones and
+/// workspace.
+fn compare(block: &Block, criterion: u32, limit: u32) {
+    let (mut one, mut other) = (lent(block.m), lent(block.m));
+    let ends = proved(block, (criterion, 0), limit, &mut one);
+    assert!(
+        ends == baseline(block, criterion, limit, &mut other) && one == other,
+        "the decoders disagree"
+    );
+}
+
 /// Best and median time of one iteration in nanoseconds, for each decoder, over interleaved rounds.
 fn iteration_times(block: &Block, rounds: usize, limit: u32) -> [(f64, f64); 4] {
+    compare(block, 0, limit);
     let mut to = lent(block.m);
     let mut times = vec![Vec::new(); 4];
     let mut softs: Vec<Vec<i16>> = Vec::new();
@@ -91,6 +103,7 @@ fn block_table(random: &mut Random) {
          blocks per second, iterations, frame errors"
     );
     let blocks: Vec<Block> = (0..300).map(|_| noisy(10, 2.5, random)).collect();
+    blocks.iter().for_each(|block| compare(block, 1, 50));
     let mut to = lent(10);
     let decoders = [
         |block: &Block, to: &mut Lent| proved(block, (1, 0), 50, to),
