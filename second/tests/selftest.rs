@@ -69,7 +69,7 @@ const TIDY: &str = env!("CARGO_BIN_EXE_tidy");
 fn run(fault: &str, report: &str, tidy: &str) -> Output {
     let mut command = Command::new(env!("CARGO_BIN_EXE_compare"));
     command.env("VEDROGNE_WRONG", fault);
-    let output = command.args(["7", "3000", report, tidy]).output();
+    let output = command.args(["7", "10000", report, tidy]).output();
     output.expect("compare runs")
 }
 
