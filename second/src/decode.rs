@@ -96,22 +96,34 @@ pub fn decode_wide(settings: &Settings, mask: &[i64], llr: &[i64]) -> Result<Dec
     let information = check_block(settings, mask, llr)?;
     let m = settings.m as usize;
     let mut messages = Messages::start(m, settings.ceiling, settings.scale, mask, llr);
+    let (ending, outputs) = run(settings, mask, &information, &mut messages);
+    Ok(Decoded {
+        ending,
+        outputs,
+        messages,
+    })
+}
+
+/// Iterates until the criterion holds, or to the limit, with outputs by the
+/// mask. The ending, and the outputs of its iteration.
+pub fn run(
+    settings: &Settings,
+    mask: &[i64],
+    information: &[usize],
+    messages: &mut Messages,
+) -> (Ending, Outputs) {
     let mut history = Vec::new();
     let mut reason = 2;
     while reason == 2 && (history.len() as i64) < settings.limit {
         messages.iterate();
-        history.push(Outputs::of(mask, &messages));
-        if holds(settings.criterion, settings.operand, &information, &history) {
+        history.push(Outputs::of(mask, messages));
+        if holds(settings.criterion, settings.operand, information, &history) {
             reason = 1;
         }
     }
     let iterations = history.len() as u32;
     let outputs = history.pop().expect("the limit is at least 1");
-    Ok(Decoded {
-        ending: Ending { iterations, reason },
-        outputs,
-        messages,
-    })
+    (Ending { iterations, reason }, outputs)
 }
 
 /// Decodes into lent slices. Refusals 1 to 10; a refusal writes nothing.

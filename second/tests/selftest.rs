@@ -44,7 +44,7 @@ const FAULTS: &[&str] = &[
     "report_number",
     "information_certain",
     "frozen_sum",
-    "frozen_sum_save_tie",
+    "frozen_sum_not_0",
     "frozen_minus",
     "frozen_mark",
     "frozen_coded",
@@ -57,7 +57,7 @@ const FAULTS: &[&str] = &[
 /// Faults that break what is said of a call on its own.
 const UNCERTAIN: &[&str] = &[
     "frozen_sum",
-    "frozen_sum_save_tie",
+    "frozen_sum_not_0",
     "frozen_minus",
     "frozen_mark",
     "report_sums",

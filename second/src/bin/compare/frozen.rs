@@ -3,8 +3,7 @@
 
 use crate::plan::{noisy_block, Plan, CEILING, CRITERION, LIMIT, OPERAND, SCALE};
 use crate::rng::Rng;
-use second::decode::{check_block, decode_wide};
-use second::endings::{holds, Outputs};
+use second::decode::{check_block, decode_wide, run};
 use second::messages::Messages;
 use second::text::Block;
 use second::{Ending, Refusal, Settings};
@@ -40,21 +39,12 @@ pub fn ending_by_sums(settings: &Settings, mask: &[i64], llr: &[i64]) -> Result<
     let m = settings.m as usize;
     let mut messages = Messages::start(m, settings.ceiling, settings.scale, mask, llr);
     let nothing_frozen = vec![0; mask.len()];
-    let mut history = Vec::new();
-    let mut reason = 2;
-    while reason == 2 && (history.len() as i64) < settings.limit {
-        messages.iterate();
-        history.push(Outputs::of(&nothing_frozen, &messages));
-        if holds(settings.criterion, settings.operand, &information, &history) {
-            reason = 1;
-        }
-    }
-    let iterations = history.len() as u32;
-    Ok(Ending { iterations, reason })
+    let (ending, _) = run(settings, &nothing_frozen, &information, &mut messages);
+    Ok(ending)
 }
 
 /// Whether a block ends elsewhere than it would by the sums.
-fn matters(plan: &Plan) -> bool {
+fn rests_on_frozen(plan: &Plan) -> bool {
     let settings = Settings::from_list(plan.settings);
     let ending = decode_wide(&settings, &plan.mask, &plan.llr).map(|decoded| decoded.ending);
     ending != ending_by_sums(&settings, &plan.mask, &plan.llr)
@@ -62,7 +52,7 @@ fn matters(plan: &Plan) -> bool {
 
 /// Draws criterion, mask and LLRs of a plan again, up to a hundred times, until
 /// its ending rests on frozen positions.
-pub fn let_it_matter(rng: &mut Rng, plan: &mut Plan) {
+pub fn redraw_resting_on_frozen(rng: &mut Rng, plan: &mut Plan) {
     let n = plan.mask.len();
     let ceiling = plan.settings[CEILING];
     let criterion = rng.between(1, 2);
@@ -85,7 +75,7 @@ pub fn let_it_matter(rng: &mut Rng, plan: &mut Plan) {
         } else {
             (0..n).map(|_| rng.between(-ceiling, ceiling)).collect()
         };
-        if matters(plan) {
+        if rests_on_frozen(plan) {
             return;
         }
     }

@@ -1,6 +1,6 @@
 //! Good blocks to decode: settings, mask and LLRs that nobody refuses.
 
-use crate::frozen::let_it_matter;
+use crate::frozen::redraw_resting_on_frozen;
 use crate::rng::Rng;
 use second::decode::{decode_wide, Decoded};
 use second::Settings;
@@ -85,7 +85,7 @@ pub fn good_plan(rng: &mut Rng, m: i64) -> Plan {
     };
     match rng.below(100) {
         0..=34 if m <= 8 => aim(rng, &mut plan),
-        35..=44 if (2..=5).contains(&m) => let_it_matter(rng, &mut plan),
+        35..=44 if (2..=5).contains(&m) => redraw_resting_on_frozen(rng, &mut plan),
         _ => {}
     }
     plan

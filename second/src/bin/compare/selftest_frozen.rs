@@ -46,8 +46,8 @@ fn spoil(settings: &Settings, frozen: bool, i: usize, lent: &mut Lent) {
     if !frozen {
         return;
     }
-    // Wrong: the sum; the sum save where that is a tie; the other sign.
-    if wrong("frozen_sum") || (wrong("frozen_sum_save_tie") && sum != 0) {
+    // Wrong: the sum; the sum where it is not 0; the other sign.
+    if wrong("frozen_sum") || (wrong("frozen_sum_not_0") && sum != 0) {
         lent.soft[i] = sum;
     }
     if wrong("frozen_minus") {
