@@ -58,12 +58,12 @@ static void iterate(int16_t *work, unsigned m, int16_t top, int16_t k) {
 /* 0 for a positive value, 1 for a negative one, 2 for zero */
 ALWAYS uint8_t mark_of(int16_t v) { return (uint8_t)((v < 0) + 2 * (v == 0)); }
 
-/* soft outputs and their marks: a frozen bit is certain. Column 0 of R keeps its start, the ceiling where a position is
-   frozen and 0 elsewhere, so that any other sum is L alone */
-static void soft_outputs(const int16_t *restrict left, const int16_t *restrict prior, size_t n, int16_t top,
+/* soft outputs and their marks. Column 0 of R keeps its start, the ceiling where a position is frozen, which is its soft
+   output, and 0 elsewhere, so that the sum is L */
+static void soft_outputs(const int16_t *restrict left, const int16_t *restrict prior, size_t n,
                          int16_t *restrict soft, uint8_t *restrict mark) {
     for (size_t i = 0; i < n; i++) {
-        int16_t l = left[i], r = prior[i], v = r ? top : l;
+        int16_t l = left[i], r = prior[i], v = r ? r : l;
         soft[i] = v;
         mark[i] = mark_of(v);
     }
@@ -82,7 +82,7 @@ static void coded_outputs(const int16_t *restrict left, const int16_t *restrict 
 static void outputs(const int16_t *work, unsigned m, int16_t top, int16_t *soft, uint8_t *mark,
                     int16_t *coded_soft, uint8_t *coded_mark) {
     size_t n = (size_t)1 << m;
-    soft_outputs(work, work + (m + 1) * n, n, top, soft, mark);
+    soft_outputs(work, work + (m + 1) * n, n, soft, mark);
     coded_outputs(work + m * n, work + (m + 1) * n + m * n, n, top, coded_soft, coded_mark);
 }
 

@@ -113,14 +113,15 @@ uint32_t vedrogne_front_erasing(
  *   criterion  what is tried after each iteration, and its operand
  *              0   nothing; operand 0
  *              1   no ties, and the marks coded are the coded marks; operand 0
- *              2   every soft output has at least the operand's size (a frozen position's has it); operand 1 to C
+ *              2   every soft output has at least the operand's size, as C at a frozen position has; operand 1 to C
  *              3   the marks at the information positions stayed the same at each of the last W iterations; operand W,
  *                  1 to 8
  *
  * Written where the call returns 0, else unchanged:
- *   soft, coded_soft    [0..N-1]: how sure each position and each coded bit is; positive for 0, negative for 1
- *   mark, coded_mark    [0..N-1]: their bits, 0 or 1, or 2 for a tie (a soft output of 0)
- *                       a frozen bit is certain: at its position soft is C and mark 0
+ *   soft, coded_soft    [0..N-1]: how sure each position and each coded bit is; positive for 0, negative for 1;
+ *                       soft at a frozen position is C
+ *   mark, coded_mark    [0..N-1]: their bits, 0 or 1, or 2 for a tie (a soft output of 0);
+ *                       mark at a frozen position is 0
  *   work                the decoder's messages as they stand at the end; its contents before don't matter
  *   *iterations         the iteration at which the decoder ended, 1 to T
  *   *reason             1: the criterion held; 2: the limit was reached without it

@@ -31,8 +31,8 @@ impl Outputs {
 
 /// The soft output of a position by its mask value: the sum of its messages
 /// where it carries information; a frozen bit is certain.
-fn soft_output(mask: i64, sum: i64, ceiling: i64) -> i64 {
-    match mask {
+fn soft_output(value: i64, sum: i64, ceiling: i64) -> i64 {
+    match value {
         0 => sum,
         _ => ceiling,
     }

@@ -1,5 +1,5 @@
-//! The worked text of the paper: its report, its tidy form, and the orders of
-//! refusals of reader and writer.
+//! The worked text of the paper as the change requests amend it: its report,
+//! its tidy form, and the orders of refusals of reader and writer.
 
 use crate::*;
 

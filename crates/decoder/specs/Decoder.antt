@@ -1,5 +1,5 @@
--- Document 01, the outputs of "Messages", "Endings", and what a call of the decoder
--- answers and leaves. Definitions only.
+-- Document 01, the outputs of "Messages" as 2026-02 amends them, "Endings", and what a call of the decoder answers
+-- and leaves. Definitions only.
 use Prim.Native.Nat.{ℕ, zero, suc, _-_, _^_}
 use mathlib.Core.Path.{_≡_}
 use mathlib.Core.Bool.{Bool, cond}
@@ -33,10 +33,10 @@ use Rattle.decoder.specs.declared.Outcome.the-variants.{Ended, Refused}
 abbrev pub ruleOf : Settings → MinSum
 ruleOf s = record { ceiling = s .ceiling; scale = s .scale }
 
--- what a soft output is, by the position's mask byte: the sum of the messages of both directions, or, where the bit is
--- certain, C with the sign of the frozen bit
+-- what a soft output is, by the position's mask byte: the sum of the messages of both directions, or, at a frozen
+-- position, C with the sign of the frozen bit
 abbrev pub softOf : MinSum → ℕ → ℤ → ℤ → ℤ
-softOf rule kind left right = byKind kind (add rule left right) (λ bit. flipped bit (pos (rule .ceiling)))
+softOf rule byte left right = byKind byte (add rule left right) (λ bit. flipped bit (pos (rule .ceiling)))
 
 abbrev pub softAt : Settings → List ℕ → List ℤ → ℕ → ℤ
 softAt s mask w i = softOf (ruleOf s) (getD mask i 0) (L (s .m) w 0 i) (R (s .m) w 0 i)

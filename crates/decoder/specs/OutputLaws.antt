@@ -11,8 +11,8 @@ use lib.ListN.{length, getD}
 use Rattle.calls.specs.LentMemoryLaws.{length-overwrite, overwrite-at, overwrite-twice}
 use Rattle.calls.specs.Signs.{flipped}
 use Rattle.calls.specs.SignLaws.{size-flipped}
-use Rattle.polar.specs.Mask.{isInformation}
-use Rattle.polar.specs.MaskLaws.{kind-information, kind-cond, kind-either}
+use Rattle.polar.specs.Mask.{isInformation, frozenBit}
+use Rattle.polar.specs.MaskLaws.{kind-information, kind-frozen, kind-either, frozen-bit-zero}
 use Rattle.message.specs.declared.MinSum.{MinSum}
 use Rattle.message.specs.Message.{add}
 use Rattle.message.specs.MessageLaws.{add-size, add-flipped}
@@ -26,43 +26,50 @@ use Rattle.decoder.specs.Decoder.{ruleOf, softOf, softAt, markAt, codedS
 
 -- ---- a soft output
 
-module _ (rule : MinSum) (kind : ℕ) (left right : ℤ) where
-  -- at an information position it is the sum, at a frozen one C
-  pub soft-information : isInformation kind ≡ true → softOf rule kind left right ≡ add rule left right
-  soft-information = kind-information _ _ kind
+module _ (rule : MinSum) (byte : ℕ) (left right : ℤ) where
+  -- at an information position it is the sum, at a frozen one C with the sign of the frozen bit
+  pub soft-information : isInformation byte ≡ true → softOf rule byte left right ≡ add rule left right
+  soft-information = kind-information _ _ byte
 
-  pub soft-frozen : isInformation kind ≡ false → softOf rule kind left right ≡ pos (rule .ceiling)
-  soft-frozen frozen = kind-cond _ _ kind ∙ rw frozen
+  pub soft-frozen : isInformation byte ≡ false
+      → softOf rule byte left right ≡ flipped (frozenBit byte) (pos (rule .ceiling))
+  soft-frozen = kind-frozen _ _ byte
 
-  pub soft-size : natAbs (softOf rule kind left right) ≤ rule .ceiling
+  pub soft-size : natAbs (softOf rule byte left right) ≤ rule .ceiling
   soft-size =
       kind-either _ _ (λ (z : ℤ). natAbs z ≤ rule .ceiling) (add-size rule left right)
-      (λ bit. rw (size-flipped bit (pos (rule .ceiling))) (le-refl (rule .ceiling))) kind
+      (λ bit. rw (size-flipped bit (pos (rule .ceiling))) (le-refl (rule .ceiling))) byte
 
 -- the sign of both directions comes out of it; at a frozen position no sign is turned
-pub soft-flipped : (rule : MinSum) (kind : ℕ) (b : Bool) (left right : ℤ) → (isInformation kind ≡ false → b ≡ false)
-    → softOf rule kind (flipped b left) (flipped b right) ≡ flipped b (softOf rule kind left right)
-soft-flipped rule kind b left right frozen = by-kind (isInformation kind) refl
+pub soft-flipped : (rule : MinSum) (byte : ℕ) (b : Bool) (left right : ℤ) → (isInformation byte ≡ false → b ≡ false)
+    → softOf rule byte (flipped b left) (flipped b right) ≡ flipped b (softOf rule byte left right)
+soft-flipped rule byte b left right frozen = by-kind (isInformation byte) refl
   where
-    by-kind : (k : Bool) → isInformation kind ≡ k
-        → softOf rule kind (flipped b left) (flipped b right) ≡ flipped b (softOf rule kind left right)
+    by-kind : (k : Bool) → isInformation byte ≡ k
+        → softOf rule byte (flipped b left) (flipped b right) ≡ flipped b (softOf rule byte left right)
     by-kind true e =
-        soft-information rule kind (flipped b left) (flipped b right) e ∙ add-flipped rule b left right
-        ∙ ap (flipped b) (sym (soft-information rule kind left right e))
+        soft-information rule byte (flipped b left) (flipped b right) e ∙ add-flipped rule b left right
+        ∙ ap (flipped b) (sym (soft-information rule byte left right e))
     by-kind false e = rw (frozen e)
 
--- ---- a frozen position, whatever the workspace holds: never tied, and never marked 1
+-- ---- a frozen position, whatever the workspace holds: its soft output is C, so it is never tied and never marked 1
 
-mark-certain : (C : ℕ) → 1 ≤ C → markOf (pos C) ≡ 0
-mark-certain zero some = absurd (omega arith)
-mark-certain (suc n) some = refl
+mark-positive : (n : ℕ) → 1 ≤ n → markOf (pos n) ≡ 0
+mark-positive zero some = absurd (omega arith)
+mark-positive (suc n) some = refl
 
 module _ (s : Settings) (mask : List ℕ) (w : List ℤ) (i : ℕ) (frozen : isInformation (getD mask i 0) ≡ false) where
+  certain : softAt s mask w i ≡ flipped (frozenBit (getD mask i 0)) (pos (s .ceiling))
+  certain = soft-frozen (ruleOf s) (getD mask i 0) (L (s .m) w 0 i) (R (s .m) w 0 i) frozen
+
+  pub frozen-size-at : natAbs (softAt s mask w i) ≡ s .ceiling
+  frozen-size-at = ap natAbs certain ∙ size-flipped (frozenBit (getD mask i 0)) (pos (s .ceiling))
+
   pub frozen-soft-at : softAt s mask w i ≡ pos (s .ceiling)
-  frozen-soft-at = soft-frozen (ruleOf s) (getD mask i 0) (L (s .m) w 0 i) (R (s .m) w 0 i) frozen
+  frozen-soft-at = certain ∙ rw (frozen-bit-zero (getD mask i 0))
 
   pub frozen-mark-at : 1 ≤ s .ceiling → markAt s mask w i ≡ 0
-  frozen-mark-at some = ap markOf frozen-soft-at ∙ mark-certain (s .ceiling) some
+  frozen-mark-at some = ap markOf frozen-soft-at ∙ mark-positive (s .ceiling) some
 
 -- ---- the outputs of a workspace
 

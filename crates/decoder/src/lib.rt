@@ -1,7 +1,7 @@
 // The decoder: LLRs become soft outputs, marks, an iteration and a reason.
 // It sees the promises of `settings`, `sweeps`, `criteria`, `message` and `polar`. It promises that the answer, the
-// four outputs and the workspace equal document 01's definitions, that nothing else is written, and nothing at all
-// after a refusal.
+// four outputs and the workspace equal document 01's definitions as 2026-02 amends them, that nothing else is written,
+// and nothing at all after a refusal.
 ghost use mathlib.Core.Path.{_≡_};
 ghost use Prim.Native.Nat.{_<_, _≤_, _^_};
 ghost use lib.IntN.{natAbs};
@@ -91,19 +91,19 @@ fn criterion_of(settings: Settings) -> Criterion
     Criterion::Steady(operand)
 }
 
-// The soft output of a position from its mask byte and the messages of both directions. Every frozen bit is a certain 0.
-// Both values are at hand, so that the loop around it chooses without a branch.
+// The soft output of a position by its mask byte: the sum of the messages of both directions, or the ceiling where the
+// bit is frozen, since every frozen bit is 0. Both are computed, so that the loop around it chooses without a branch.
 fn soft_output(rule: MinSum, kind: u8, left: i16, right: i16) -> i16
     requires { ⌜ RuleInRange rule ⌝ }
     requires { ⌜ (natAbs left ≤ rule .ceiling) × (natAbs right ≤ rule .ceiling) ⌝ }
     ensures { λ r. ⌜ r ≡ softOf rule kind left right ⌝ }
 {
     let sum = message::add_cut(rule, left, right);
-    let certain = rule.ceiling as i16;
+    let top = rule.ceiling as i16;
     if polar::is_information(kind) {
         sum
     } else {
-        certain
+        top
     }
 }
 

@@ -16,7 +16,7 @@ pub record Cases : Type 0 where
   pub lowest-i32 : shown (negsuc 2147483647) ≡ bytes "-2147483648"
   pub refusal-number : line (pos 14 ∷ []) ≡ bytes "14\n"
   pub iteration-and-reason : line (pos 1 ∷ pos 1 ∷ []) ≡ bytes "1 1\n"
-  pub position-0 : line (pos 0 ∷ pos 28 ∷ pos 0 ∷ pos 2 ∷ pos 0 ∷ []) ≡ bytes "0 28 0 2 0\n"
+  pub position-0 : line (pos 0 ∷ pos 31 ∷ pos 0 ∷ pos 2 ∷ pos 0 ∷ []) ≡ bytes "0 31 0 2 0\n"
   pub negative-values : line (pos 1 ∷ negsuc 1 ∷ pos 1 ∷ negsuc 1 ∷ pos 1 ∷ []) ≡ bytes "1 -2 1 -2 1\n"
   pub refusal-name : bytes "refused\n" ≡ 114 ∷ 101 ∷ 102 ∷ 117 ∷ 115 ∷ 101 ∷ 100 ∷ 10 ∷ []
 

@@ -1,7 +1,7 @@
 -- Laws of the mask's bytes: what `byKind` gives at an information position and at a frozen one.
 use Prim.Native.Nat.{ℕ, zero, suc}
 use mathlib.Core.Path.{_≡_, refl}
-use mathlib.Core.Bool.{Bool, true, false, cond, true≢false, false≢true}
+use mathlib.Core.Bool.{Bool, true, false, true≢false, false≢true}
 use lib.Dec.{eqb, eqb·suc-zero}
 use Rattle.polar.specs.Mask.{Kind, information, frozen, kindOf, onKind, byKind, isInformation, frozenBit}
 
@@ -22,12 +22,7 @@ module _ {A : Type 0} (atInformation : A) (atFrozen : Bool → A) where
       go information e = absurd (true≢false e)
       go (frozen bit) e = refl
 
-  -- every frozen position is frozen to 0, so that it is a choice of two
-  pub kind-cond : (byte : ℕ) → byKind byte atInformation atFrozen ≡ cond (isInformation byte) atInformation (atFrozen false)
-  kind-cond zero = refl
-  kind-cond (suc n) = refl
-
-  -- what holds of both holds of the one that is chosen
+  -- what holds of the first, and of the second for either bit, holds of the one that the byte chooses
   pub kind-either : (P : A → Type 0) → P atInformation → ((bit : Bool) → P (atFrozen bit))
       → (byte : ℕ) → P (byKind byte atInformation atFrozen)
   kind-either P one other byte = go (kindOf byte)

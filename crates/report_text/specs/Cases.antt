@@ -1,4 +1,4 @@
--- Document 01's input with the output that it prints for it, and three texts more. Computed facts.
+-- Document 01's input with its output, as 2026-02 amends it, and three texts more. Computed facts.
 use Prim.Native.Nat.{ℕ}
 use mathlib.Core.Path.{_≡_, refl}
 use mathlib.Core.List.{List, [], _∷_, _++_, map}

@@ -1,7 +1,7 @@
 // The report: from the bytes of a text to the bytes of its outcome.
-// It sees `report_input`, `decoder` and `format`. It promises the text that document 01 gives, for every byte string,
-// from the first byte of the lent array on, its old contents behind, and the text's length. The array has room for
-// every outcome.
+// It sees `report_input`, `decoder` and `format`. It promises the text that document 01, as the requests amend it,
+// gives for every byte string, from the first byte of the lent array on, its old contents behind, and the text's
+// length. The array has room for every outcome.
 ghost use mathlib.Core.Path.{_≡_};
 ghost use Prim.Native.Nat.{_+_, _*_, _≤_};
 ghost use lib.ListN.{length};

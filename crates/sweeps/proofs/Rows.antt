@@ -1,7 +1,7 @@
 -- One turn of a loop that writes a whole row.
 use Prim.Native.Nat.{ℕ, _+_, _*_, _^_, _≤_, _<_}
-use mathlib.Core.Path.{_≡_, sym, ap, _∙_}
-use mathlib.Core.Bool.{cond}
+use mathlib.Core.Path.{_≡_, refl, sym, ap, _∙_}
+use mathlib.Core.Bool.{Bool, true, false, cond}
 use mathlib.Core.List.{List}
 use native.Mathlib.Numerals.{add-one}
 use native.Mathlib.Omega.{arith}
@@ -15,7 +15,7 @@ use Rattle.calls.specs.LentMemory.{overwriteFrom}
 use Rattle.calls.specs.LentMemoryLaws.{length-overwriteFrom, overwriteFrom-none, overwriteFrom-store}
 use Rattle.calls.specs.Signs.{flipped}
 use Rattle.polar.specs.Mask.{byKind, isInformation}
-use Rattle.polar.specs.MaskLaws.{kind-cond}
+use Rattle.polar.specs.MaskLaws.{kind-information, kind-frozen, frozen-bit-zero}
 use Rattle.sweeps.specs.Workspace.{setRow}
 use Rattle.sweeps.specs.WorkspaceLaws.{row-lt}
 
@@ -49,6 +49,11 @@ place m k i n room e hk hi h = rw e (omega (arith, row-lt m k i hk hi))
 -- the prior of a mask byte, as the code takes it
 pub prior-is : (C byte : ℕ) → C ≤ largestCeiling
     → cond (isInformation byte) (pos 0) (toZ w16 C) ≡ byKind byte (pos 0) (λ bit. flipped bit (pos C))
-prior-is C byte h =
-    ap (cond (isInformation byte) (pos 0)) (toZ-pos w16 {n = C} (omega arith))
-    ∙ sym (kind-cond (pos 0) (λ bit. flipped bit (pos C)) byte)
+prior-is C byte h = go (isInformation byte) refl
+  where
+    go : (b : Bool) → isInformation byte ≡ b
+        → cond b (pos 0) (toZ w16 C) ≡ byKind byte (pos 0) (λ bit. flipped bit (pos C))
+    go true e = sym (kind-information (pos 0) (λ bit. flipped bit (pos C)) byte e)
+    go false e =
+        toZ-pos w16 {n = C} (omega arith)
+        ∙ sym (kind-frozen (pos 0) (λ bit. flipped bit (pos C)) byte e ∙ rw (frozen-bit-zero byte))

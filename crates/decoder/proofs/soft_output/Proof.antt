@@ -4,6 +4,7 @@ use native.Mathlib.Omega.{arith}
 use borrow.Author.Needs.{needs}
 use mir.Facts.{toZ-ofZ, toZ-pos}
 use mir.Syntax.{w16}
+use Rattle.polar.specs.MaskLaws.{frozen-bit-zero}
 use Rattle.message.specs.Message.{add}
 use Rattle.calls.proofs.Signed.{told}
 use Rattle.decoder.specs.OutputLaws.{soft-information, soft-frozen}
@@ -13,8 +14,8 @@ use Rattle.decoder.proofs.soft_output.Tie as tie
 add-cut-requires : tie.Need-add-cut-requires
 add-cut-requires c κs = search needs
 
-cast-certain : tie.Need-cast-certain
-cast-certain c = search needs
+cast-top : tie.Need-cast-top
+cast-top c = search needs
 
 is-information-requires : tie.Need-is-information-requires
 is-information-requires c κs = search needs
@@ -35,9 +36,9 @@ returns-2 : tie.Need-returns-2
 returns-2 c =
     let i = c .before in
     let s = i .before .before .before in
-    toZ-pos w16 (omega arith)
+    toZ-pos w16 {n = s .args .rule .ceiling} (omega arith)
     ∙ sym (soft-frozen (s .args .rule) (s .args .kind) (s .args .left) (s .args .right)
-    (sym (i .is-information .ensures) ∙ c .if1 .left))
+    (sym (i .is-information .ensures) ∙ c .if1 .left) ∙ rw (frozen-bit-zero (s .args .kind)))
 
 pub soft-output-spec : {M : Type 1} → statement M
-soft-output-spec = tie.close (tie.spec add-cut-requires cast-certain is-information-requires returns returns-2)
+soft-output-spec = tie.close (tie.spec add-cut-requires cast-top is-information-requires returns returns-2)

@@ -65,8 +65,8 @@ pub trait Call: Clone {
     /// The answer of the second library.
     fn second(&mut self) -> u32;
 
-    /// What is said of every accepted call on its own and does not hold of this
-    /// one, as it was left, in lines; nothing where all holds.
+    /// What holds of every accepted call and not of this one as it was left, a
+    /// line for each; empty where all holds.
     fn broken(&self) -> String {
         String::new()
     }

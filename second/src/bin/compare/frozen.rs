@@ -50,8 +50,8 @@ fn rests_on_frozen(plan: &Plan) -> bool {
     ending != ending_by_sums(&settings, &plan.mask, &plan.llr)
 }
 
-/// Draws criterion, mask and LLRs of a plan again, up to a hundred times, until
-/// its ending rests on frozen positions.
+/// Draws criterion, limit and scale of a plan again, then operand, mask and
+/// LLRs up to a hundred times, until its ending rests on frozen positions.
 pub fn redraw_resting_on_frozen(rng: &mut Rng, plan: &mut Plan) {
     let n = plan.mask.len();
     let ceiling = plan.settings[CEILING];

@@ -178,8 +178,8 @@ fn draw_llr(rng: &mut Rng, mask: &[i64], ceiling: i64) -> Vec<i64> {
     }
 }
 
-/// The block of a random word, with noise. So many of a hundred frozen
-/// positions carry a 1, which no coder sends.
+/// The block of a random word, with noise. Of a hundred frozen positions
+/// `against` carry a 1, which no coder sends.
 pub fn noisy_block(rng: &mut Rng, mask: &[i64], ceiling: i64, against: usize) -> Vec<i64> {
     let ones = |frozen| if frozen == 1 { against } else { 50 };
     let u: Vec<u8> = mask

@@ -23,9 +23,12 @@ pub fn decode(
         || (wrong("criterion_2_sums") && settings.criterion == 2)
     {
         ending = ending_by_sums(settings, &widen(&mask[..n]), &widen(&llr[..n]))?;
-        let limit = i64::from(ending.iterations);
-        let until_then =
-            Settings::from_list([settings.m, settings.ceiling, settings.scale, limit, 0, 0]);
+        let until_then = Settings {
+            limit: i64::from(ending.iterations),
+            criterion: 0,
+            operand: 0,
+            ..*settings
+        };
         second::decode(&until_then, mask, llr, lent)?;
     }
     for (i, &value) in mask[..n].iter().enumerate() {
