@@ -58,8 +58,8 @@ static void iterate(int16_t *work, unsigned m, int16_t top, int16_t k) {
 /* 0 for a positive value, 1 for a negative one, 2 for zero */
 ALWAYS uint8_t mark_of(int16_t v) { return (uint8_t)((v < 0) + 2 * (v == 0)); }
 
-/* soft outputs and their marks. Column 0 of R keeps its start, the ceiling where a position is frozen, which is its soft
-   output, and 0 elsewhere, so that the sum is L */
+/* soft outputs and their marks. Column 0 of R keeps its start: the ceiling where a position is frozen, which is its
+   soft output, and 0 elsewhere, so that the sum is L */
 static void soft_outputs(const int16_t *restrict left, const int16_t *restrict prior, size_t n,
                          int16_t *restrict soft, uint8_t *restrict mark) {
     for (size_t i = 0; i < n; i++) {

@@ -11,12 +11,6 @@ const NAMES: [&str; 4] = [
     "baseline (C -O3)",
 ];
 
-/// The proved decoder and the baseline under criterion 1, with a limit.
-const UNDER_CRITERION_1: [fn(&Block, u32, &mut Lent) -> u32; 2] = [
-    |block, limit, to| proved(block, (1, 0), limit, to),
-    |block, limit, to| baseline(block, 1, limit, to),
-];
-
 fn run(which: usize, block: &Block, limit: u32, to: &mut Lent) {
     match which {
         0 => drop(proved(block, (0, 0), limit, to)),
@@ -87,34 +81,6 @@ fn iteration_table(random: &mut Random) {
     );
 }
 
-/// LLRs of 0 leave ties everywhere, so that criterion 1 is tried at each iteration and never holds.
-fn criterion_table() {
-    println!(
-        "\nOne iteration at m = 10 under criterion 1 (ns; best of 60 rounds of 200 iterations; \
-         ratio to the baseline's)"
-    );
-    let block = Block {
-        m: 10,
-        ceiling: 2047,
-        scale: 15,
-        mask: bench::noise::mask(10, 2.0),
-        llr: vec![0; 1024],
-    };
-    compare(&block, 1, 200);
-    let mut to = lent(10);
-    let mut best = [f64::MAX; 2];
-    for _ in 0..60 {
-        for (best, decode) in best.iter_mut().zip(UNDER_CRITERION_1) {
-            let begin = Instant::now();
-            decode(&block, 200, &mut to);
-            *best = best.min(begin.elapsed().as_nanos() as f64 / 200.0);
-        }
-    }
-    for (name, best_of) in [NAMES[0], NAMES[3]].iter().zip(best) {
-        println!("{name:20} {best_of:9.0} {:17.2}", best_of / best[1]);
-    }
-}
-
 fn growth_table(random: &mut Random) {
     println!(
         "\nOne iteration by m (ns, best of 30 rounds of 200 iterations): proved, baseline, ratio"
@@ -134,18 +100,22 @@ fn growth_table(random: &mut Random) {
 fn block_table(random: &mut Random) {
     println!(
         "\n(1024,512) blocks at 2.5 dB under criterion 1, limit 50 (best of 9 rounds of 300 blocks): \
-         blocks per second, iterations, frame errors"
+         blocks per second, ns an iteration, iterations, frame errors"
     );
     let blocks: Vec<Block> = (0..300).map(|_| noisy(10, 2.5, random)).collect();
     blocks.iter().for_each(|block| compare(block, 1, 50));
     let mut to = lent(10);
+    let decoders = [
+        |block: &Block, to: &mut Lent| proved(block, (1, 0), 50, to),
+        |block: &Block, to: &mut Lent| baseline(block, 1, 50, to),
+    ];
     let mut best = [f64::MAX; 2];
     let (mut iterations, mut errors) = ([0u32; 2], [0; 2]);
     for round in 0..9 {
-        for (which, decode) in UNDER_CRITERION_1.iter().enumerate() {
+        for (which, decode) in decoders.iter().enumerate() {
             let begin = Instant::now();
             for block in &blocks {
-                let at = decode(block, 50, &mut to);
+                let at = decode(block, &mut to);
                 if round == 0 {
                     iterations[which] += at;
                     errors[which] += usize::from(to.is_wrong(block));
@@ -160,10 +130,12 @@ fn block_table(random: &mut Random) {
     );
     for (which, name) in [(0, NAMES[0]), (1, NAMES[3])] {
         let count = blocks.len() as f64;
+        let all = f64::from(iterations[which]);
         println!(
-            "{name:20} {:8.0} {:6.2} {:5}",
+            "{name:20} {:8.0} {:8.0} {:6.2} {:5}",
             count / best[which],
-            f64::from(iterations[which]) / count,
+            best[which] * 1e9 / all,
+            all / count,
             errors[which]
         );
     }
@@ -172,7 +144,6 @@ fn block_table(random: &mut Random) {
 fn main() {
     let mut random = Random(2026);
     iteration_table(&mut random);
-    criterion_table();
     growth_table(&mut random);
     block_table(&mut random);
 }
