@@ -12,7 +12,7 @@ use Rattle.calls.specs.LentMemoryLaws.{length-overwrite, overwrite-at, overwrit
 use Rattle.calls.specs.Signs.{flipped}
 use Rattle.calls.specs.SignLaws.{size-flipped}
 use Rattle.polar.specs.Mask.{isInformation, frozenBit}
-use Rattle.polar.specs.MaskLaws.{kind-information, kind-frozen, kind-either, frozen-bit-zero}
+use Rattle.polar.specs.MaskLaws.{kind-information, kind-frozen, kind-either, kind-flipped, frozen-bit-zero}
 use Rattle.message.specs.declared.MinSum.{MinSum}
 use Rattle.message.specs.Message.{add}
 use Rattle.message.specs.MessageLaws.{add-size, add-flipped}
@@ -43,14 +43,7 @@ module _ (rule : MinSum) (byte : ℕ) (left right : ℤ) where
 -- the sign of both directions comes out of it; at a frozen position no sign is turned
 pub soft-flipped : (rule : MinSum) (byte : ℕ) (b : Bool) (left right : ℤ) → (isInformation byte ≡ false → b ≡ false)
     → softOf rule byte (flipped b left) (flipped b right) ≡ flipped b (softOf rule byte left right)
-soft-flipped rule byte b left right frozen = by-kind (isInformation byte) refl
-  where
-    by-kind : (k : Bool) → isInformation byte ≡ k
-        → softOf rule byte (flipped b left) (flipped b right) ≡ flipped b (softOf rule byte left right)
-    by-kind true e =
-        soft-information rule byte (flipped b left) (flipped b right) e ∙ add-flipped rule b left right
-        ∙ ap (flipped b) (sym (soft-information rule byte left right e))
-    by-kind false e = rw (frozen e)
+soft-flipped rule byte b left right frozen = kind-flipped _ _ _ byte b frozen (add-flipped rule b left right)
 
 -- ---- a frozen position, whatever the workspace holds: its soft output is C, so it is never tied and never marked 1
 

@@ -1,8 +1,8 @@
 -- Two runs of the decoder, the second with its LLRs flipped by the block sent: every message of the second run is that
 -- of the first, flipped by the bit that it stands for, after any number of iterations; and so are the soft outputs.
 use Prim.Native.Nat.{ℕ, zero, suc, _+_, _-_, _*_, _/_, _^_, _≤_, _<_, zero-le}
-use mathlib.Core.Path.{_≡_, refl, sym, ap, _∙_, subst}
-use mathlib.Core.Bool.{Bool, true, false}
+use mathlib.Core.Path.{_≡_, sym, _∙_, subst}
+use mathlib.Core.Bool.{Bool, false}
 use mathlib.Core.List.{List}
 use native.Mathlib.Nat.{le-refl, add-div-right, div-eq-sub-div, le-div-iff-mul-le}
 use native.Mathlib.Decide.{ℕ-discrete, decLt}
@@ -16,7 +16,7 @@ use Rattle.calls.specs.Signs.{flipped}
 use Rattle.calls.specs.SignLaws.{flipped-zero}
 use Rattle.calls.specs.Bits.{xor}
 use Rattle.polar.specs.Mask.{isInformation}
-use Rattle.polar.specs.MaskLaws.{kind-information}
+use Rattle.polar.specs.MaskLaws.{kind-flipped}
 use Rattle.polar.specs.Code.{coded}
 use Rattle.polar.specs.Columns.{digit, columnStep, column}
 use Rattle.calls.specs.BitLaws.{xor-comm, xor-cancel}
@@ -112,13 +112,7 @@ pub record Runs (m : ℕ) (mask : List ℕ) (u : ℕ → Bool) (llr llr′ old o
 
 prior-flips : (C : ℕ) (mask : List ℕ) (i : ℕ) (b : Bool) → (isInformation (getD mask i 0) ≡ false → b ≡ false)
     → prior C mask i ≡ flipped b (prior C mask i)
-prior-flips C mask i b frozen = by-kind (isInformation (getD mask i 0)) refl
-  where
-    by-kind : (k : Bool) → isInformation (getD mask i 0) ≡ k → prior C mask i ≡ flipped b (prior C mask i)
-    by-kind true e =
-        let none = kind-information (pos 0) (λ bit. flipped bit (pos C)) (getD mask i 0) e in
-        none ∙ sym (flipped-zero b) ∙ ap (flipped b) (sym none)
-    by-kind false e = rw (frozen e)
+prior-flips C mask i b frozen = kind-flipped _ _ _ (getD mask i 0) b frozen (sym (flipped-zero b))
 
 abbrev cleared : ℕ → List ℤ → List ℤ
 cleared m old = overwrite (workspaceLength m) (λ j. pos 0) old

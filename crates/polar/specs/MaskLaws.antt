@@ -1,8 +1,11 @@
--- Laws of the mask's bytes: what `byKind` gives at an information position and at a frozen one.
+-- Laws of the mask's bytes: what `byKind` gives at an information position and at a frozen one, and how a turned sign
+-- comes out of it.
 use Prim.Native.Nat.{ℕ, zero, suc}
 use mathlib.Core.Path.{_≡_, refl}
 use mathlib.Core.Bool.{Bool, true, false, true≢false, false≢true}
 use lib.Dec.{eqb, eqb·suc-zero}
+use lib.IntN.{ℤ}
+use Rattle.calls.specs.Signs.{flipped}
 use Rattle.polar.specs.Mask.{Kind, information, frozen, kindOf, onKind, byKind, isInformation, frozenBit}
 
 module _ {A : Type 0} (atInformation : A) (atFrozen : Bool → A) where
@@ -30,6 +33,16 @@ module _ {A : Type 0} (atInformation : A) (atFrozen : Bool → A) where
       go : (k : Kind) → P (onKind k atInformation atFrozen)
       go information = one
       go (frozen bit) = other bit
+
+-- a sign that is turned at information positions alone comes out of the choice
+pub kind-flipped : (z z′ : ℤ) (atFrozen : Bool → ℤ) (byte : ℕ) (b : Bool) → (isInformation byte ≡ false → b ≡ false)
+    → z′ ≡ flipped b z → byKind byte z′ atFrozen ≡ flipped b (byKind byte z atFrozen)
+kind-flipped z z′ atFrozen byte b unturned turned = go (kindOf byte) unturned
+  where
+    go : (k : Kind) → (onKind k true (λ bit. false) ≡ false → b ≡ false)
+        → onKind k z′ atFrozen ≡ flipped b (onKind k z atFrozen)
+    go information h = turned
+    go (frozen bit) h = rw (h refl)
 
 -- 0 is the one byte of an information position
 pub information-is-zero : (byte : ℕ) → eqb byte 0 ≡ isInformation byte

@@ -198,7 +198,9 @@ impl Decoding<'_> {
             settings.check()?;
             return Err(Refusal::Llr);
         }
-        let mut ending = selftest_frozen::decode(settings, self.mask, self.llr, &mut self.lent)?;
+        let right = second::decode(settings, self.mask, self.llr, &mut self.lent)?;
+        let block = (self.mask, self.llr);
+        let mut ending = selftest_frozen::with_faults(settings, block, &mut self.lent, right)?;
         if wrong("reason_at_limit") && i64::from(ending.iterations) == settings.limit {
             ending.reason = 2;
         }

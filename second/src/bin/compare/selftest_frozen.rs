@@ -9,14 +9,13 @@ use second::report::print;
 use second::text::{accepted, refused};
 use second::{Ending, Lent, Refusal, Settings};
 
-/// Decodes, with the faults that are asked for.
-pub fn decode(
+/// What a call that has just ended leaves, with the faults that are asked for.
+pub fn with_faults(
     settings: &Settings,
-    mask: &[u8],
-    llr: &[i16],
+    (mask, llr): (&[u8], &[i16]),
     lent: &mut Lent,
+    mut ending: Ending,
 ) -> Result<Ending, Refusal> {
-    let mut ending = second::decode(settings, mask, llr, lent)?;
     let n = 1 << settings.m;
     // Wrong: a criterion reads the sums of the messages.
     if (wrong("criterion_1_sums") && settings.criterion == 1)
