@@ -84,13 +84,14 @@ pub fn smaller(a: u16, b: u16) -> u16
     if a < b { a } else { b }
 }
 
-// The size of a message.
+// The size of a message. The negation has 32 bits: of one with 16, which must not overflow, the compiler concludes that
+// a size is 0 or more, and takes the smaller of two as of unsigned numbers, for which SSE2 has no instruction.
 pub fn size(value: i16) -> u16
     requires { ⌜ natAbs value ≤ largestCeiling ⌝ }
     ensures { λ r. ⌜ r ≡ natAbs value ⌝ }
 {
     if value < 0 {
-        -value as u16
+        -(value as i32) as u16
     } else {
         value as u16
     }

@@ -106,7 +106,7 @@ fn quantise(value: f32, ceiling: u32) -> i16
     ensures { λ r. ⌜ r ≡ quantised ceiling value ⌝ }
 {
     let bits = f32::to_bits(value);
-    let size = rounded_size(bits % 0x8000_0000 / 0x80_0000, bits % 0x80_0000, ceiling) as i16;
+    let size = rounded_size((bits & 0x7fff_ffff) >> 23, bits & 0x7f_ffff, ceiling) as i16;
     if bits < 0x8000_0000 { size } else { -size }
 }
 

@@ -1,15 +1,15 @@
 -- What the arithmetic of messages computes in an `i16`: sums that fit, signs, a scaled size, and the cut.
-use Prim.Native.Nat.{ℕ, zero, suc, _+_, _-_, _*_, _<_, _≤_, _^_, min}
+use Prim.Native.Nat.{ℕ, zero, suc, _+_, _-_, _*_, _/_, _<_, _≤_, _^_, min}
 use mathlib.Core.Path.{_≡_, refl}
 use mathlib.Core.Bool.{Bool, true, false, not, cond, Bool·beq}
-use native.Mathlib.Nat.{mul-le-mul}
+use native.Mathlib.Nat.{mul-le-mul, div-le-self, lt-of-le-of-lt}
 use native.Mathlib.Omega.{arith}
 use lib.IntN.{ℤ, pos, negsuc, negℤ, natAbs, subℕ, _+ℤ_}
 use lib.Signed.{ltZ}
 use lib.Dec.{ltb}
 use borrow.Author.Tests.{le-ltb, ltb-true, ltb-false}
 use mir.Syntax.{w16}
-use mir.Val.{SFits}
+use mir.Val.{Fits, SFits}
 use Rattle.calls.proofs.Signed.{size-fits}
 use Rattle.calls.specs.Bounds.{largestCeiling, largestScale}
 use Rattle.calls.specs.Signs.{flipped}
@@ -43,11 +43,23 @@ unequal false true z = refl
 unequal true false z = refl
 unequal true true z = refl
 
--- ---- a scaled size
+-- ---- the smaller size, and a scaled one
 
-pub product-le : (scale size : ℕ) → scale ≤ largestScale → size ≤ largestCeiling
-    → scale * size ≤ largestScale * largestCeiling
-product-le scale size h g = mul-le-mul h g
+pub lesser-size : (x y : ℕ) → lesser (pos x) (pos y) ≡ pos (min x y)
+lesser-size x y = by-test (ltb x y) refl
+  where
+    by-test : (t : Bool) → ltb x y ≡ t → cond t (pos x) (pos y) ≡ pos (min x y)
+    by-test true e = let h : x < y = ltb-true x y e in let m : min x y ≡ x = omega arith in simp m
+    by-test false e = let h : y ≤ x = ltb-false x y e in let m : min x y ≡ y = omega arith in simp m
+
+pub product-small : (k n : ℕ) → k ≤ largestScale → n ≤ largestCeiling → k * n < 2 ^ 15
+product-small k n h g = omega (arith, mul-le-mul h g)
+
+pub product-fits : (k n : ℕ) → k ≤ largestScale → n ≤ largestCeiling → Fits w16 (k * n)
+product-fits k n h g = record { fits = omega (arith, product-small k n h g) }
+
+pub quotient-small : (n m : ℕ) → n < 2 ^ 15 → n / m < 2 ^ 15
+quotient-small n m h = lt-of-le-of-lt (div-le-self n m) h
 
 -- ---- the cut, from above and then from below
 

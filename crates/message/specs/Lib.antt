@@ -1,4 +1,5 @@
 pub mod Message
 pub mod Private
 pub mod MessageLaws
+pub mod ShiftLaws
 pub mod Cases

@@ -44,13 +44,6 @@ fn is_negative(a: i16) -> bool
     a < 0
 }
 
-fn scaled(scale: u16, size: u16) -> u16
-    requires { ⌜ (scale ≤ largestScale) × (size ≤ largestCeiling) ⌝ }
-    ensures { λ r. ⌜ r ≡ scale * size / 16 ⌝ }
-{
-    scale * size / 16
-}
-
 // A size with its sign given back.
 fn with_sign(negative: bool, size: u16) -> i16
     requires { ⌜ size < 2 ^ 15 ⌝ }
@@ -60,13 +53,23 @@ fn with_sign(negative: bool, size: u16) -> i16
     if negative { -value } else { value }
 }
 
-// f of two messages. The size is scaled, and the sign given back afterwards.
+// A size scaled, and its sign given back afterwards. The shift by 4 places is the quotient by 16, cut down, of a size
+// alone: of a negative product it would be one rounded down, -3 of -45.
+fn scaled(scale: u16, negative: bool, size: u16) -> i16
+    requires { ⌜ (scale ≤ largestScale) × (size ≤ largestCeiling) ⌝ }
+    ensures { λ r. ⌜ r ≡ flipped negative (pos (scale * size / 16)) ⌝ }
+{
+    let product = scale * size;
+    with_sign(negative, product >> 4)
+}
+
+// f of two messages. The sizes are compared as signed numbers: SSE2 has a minimum of those alone.
 pub fn min_sum(rule: MinSum, a: i16, b: i16) -> i16
     requires { ⌜ RuleInRange rule ⌝ }
     requires { ⌜ (natAbs a ≤ rule .ceiling) × (natAbs b ≤ rule .ceiling) ⌝ }
     ensures { λ r. ⌜ r ≡ f rule a b ⌝ }
 {
-    let scale = rule.scale;
-    let size = scaled(scale, calls::smaller(calls::size(a), calls::size(b)));
-    with_sign(is_negative(a) != is_negative(b), size)
+    let negative = is_negative(a) != is_negative(b);
+    let size = lower_of(calls::size(a) as i16, calls::size(b) as i16);
+    scaled(rule.scale, negative, size as u16)
 }

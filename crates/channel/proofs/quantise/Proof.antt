@@ -4,6 +4,7 @@ use mathlib.Core.Bool.{Bool, true, false}
 use native.Mathlib.Omega.{arith}
 use lib.Dec.{T, leb}
 use lib.Pow.{pow-pos}
+use lib.Bits.{and-mask, mask-lt}
 use lib.IntN.{pos}
 use lib.Ieee.{binary32, toBits}
 use mir.Syntax.{w16}
@@ -14,19 +15,27 @@ use borrow.Author.Tests.{le-leb, lt-leb}
 use Rattle.calls.proofs.Signed.{minus-fits, minus-held}
 use Rattle.calls.specs.Bounds.{largestCeiling}
 use Rattle.calls.specs.Signs.{flipped}
-use Rattle.channel.specs.Front.{quantised}
+use Rattle.channel.specs.Front.{quantised, roundedSize}
 use Rattle.channel.specs.Private.{fieldUnits}
 use Rattle.channel.specs.FrontLaws.{rounded-bound}
 use Rattle.channel.proofs.Fields.{quantised-bits}
 use Rattle.channel.proofs.quantise.Statement.{statement}
 use Rattle.channel.proofs.quantise.Tie as tie
 
+-- the two fields below the sign, taken out of the bits by a mask, are remainders
+module _ (c : tie.After-rounded-size) where
+  abbrev bits : ℕ
+  bits = toBits binary32 (c .before .args .value)
+
+  abbrev units : ℕ
+  units = fieldUnits (bits % 2147483648 / 8388608) (bits % 8388608)
+
+  size-is : c .rounded-size .result ≡ roundedSize (c .before .args .ceiling) units (2 ^ 149)
+  size-is = simp (and-mask bits 31, and-mask bits 23) at (c .rounded-size .ensures)
+
 -- the size, as it was computed and as the `i16` holds it
 small : (c : tie.After-rounded-size) → c .rounded-size .result ≤ largestCeiling
-small c =
-    let bits = toBits binary32 (c .before .args .value) in
-    let units = fieldUnits (bits % 2147483648 / 8388608) (bits % 8388608) in
-    omega (arith, c .rounded-size .ensures, rounded-bound (c .before .args .ceiling) units (2 ^ 149) (pow-pos 149))
+small c = omega (arith, size-is c, rounded-bound (c .before .args .ceiling) (units c) (2 ^ 149) (pow-pos 149))
 
 held : (c : tie.After-rounded-size) → toZ w16 (c .rounded-size .result) ≡ pos (c .rounded-size .result)
 held c = toZ-pos w16 (omega (arith, small c))
@@ -36,7 +45,7 @@ ends : (c : tie.After-rounded-size) (s : Bool) → leb 2147483648 (toBits binary
     → flipped s (pos (c .rounded-size .result)) ≡ quantised (c .before .args .ceiling) (c .before .args .value)
 ends c s e =
     let a = c .before .args in
-    ap₂ (λ (t : Bool) (n : ℕ). flipped t (pos n)) (sym e) (c .rounded-size .ensures)
+    ap₂ (λ (t : Bool) (n : ℕ). flipped t (pos n)) (sym e) (size-is c)
     ∙ sym (quantised-bits (a .ceiling) (a .value) (omega arith) (subst T (sym (c .before .good .0 .1)) tt)
     (c .before .pre .0))
 
@@ -44,7 +53,7 @@ float-to-bits-bits : tie.Need-float-to-bits-bits
 float-to-bits-bits c = search needs
 
 rounded-size-requires : tie.Need-rounded-size-requires
-rounded-size-requires c κs = search needs
+rounded-size-requires c κs = (mask-lt (toBits binary32 (c .args .value)) 23, c .pre .1 .0, c .pre .1 .1)
 
 cast-size : tie.Need-cast-size
 cast-size c = record { sfits = omega (arith, small c) }

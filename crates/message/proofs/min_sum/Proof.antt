@@ -1,41 +1,18 @@
-use Prim.Native.Nat.{_≤_, min}
-use mathlib.Core.Path.{_≡_, _∙_}
+use Prim.Native.Nat.{ℕ, _≤_, _<_, _^_, min}
+use mathlib.Core.Path.{_≡_, refl, _∙_}
 use native.Mathlib.Omega.{arith}
-use lib.IntN.{natAbs}
+use lib.IntN.{pos, natAbs}
 use borrow.Author.Needs.{needs}
-use mir.Facts.{toZ-ofZ}
+use mir.Syntax.{w16}
+use mir.Val.{toZ, ofZ}
+use mir.Facts.{toZ-ofZ, toZ-pos}
 use Rattle.calls.proofs.Signed.{told}
 use Rattle.calls.specs.Bounds.{largestCeiling}
 use Rattle.calls.specs.Signs.{isNegative}
 use Rattle.message.specs.Message.{f}
-use Rattle.message.proofs.Machine.{unequal, product-le}
+use Rattle.message.proofs.Machine.{unequal, lesser-size}
 use Rattle.message.proofs.min_sum.Statement.{statement}
 use Rattle.message.proofs.min_sum.Tie as tie
-
-size-requires : tie.Need-size-requires
-size-requires c κs = rw (toZ-ofZ (c .fits .a)) (omega arith)
-
-size-requires-2 : tie.Need-size-requires-2
-size-requires-2 c κs = rw (toZ-ofZ (c .before .fits .b)) (omega arith)
-
-smaller-requires : tie.Need-smaller-requires
-smaller-requires c κs = search needs
-
-module _ (c : tie.After-smaller) where
-  abbrev start : tie.Start
-  start = c .before .before .before
-
-  smaller-is : c .smaller .result ≡ min (natAbs (start .args .a)) (natAbs (start .args .b))
-  smaller-is =
-      let first = simp (toZ-ofZ (start .fits .a)) at (c .before .before .size .ensures) in
-      let second = simp (toZ-ofZ (start .fits .b)) at (c .before .size2 .ensures) in
-      omega arith
-
-  smaller-le : c .smaller .result ≤ largestCeiling
-  smaller-le = omega (arith, smaller-is)
-
-scaled-requires : tie.Need-scaled-requires
-scaled-requires c κs = (omega arith, smaller-le c)
 
 is-negative-requires : tie.Need-is-negative-requires
 is-negative-requires c κs = search needs
@@ -43,31 +20,75 @@ is-negative-requires c κs = search needs
 is-negative-requires-2 : tie.Need-is-negative-requires-2
 is-negative-requires-2 c κs = search needs
 
-with-sign-requires : tie.Need-with-sign-requires
-with-sign-requires c κs =
-    let m = c .before .before .before in
-    let small = smaller-le m in
-    omega (arith, product-le (start m .args .rule .scale) (m .smaller .result) (start m .pre .0 .scale-le) small)
+size-requires : tie.Need-size-requires
+size-requires c κs = rw (toZ-ofZ (c .before .before .fits .a)) (omega arith)
+
+size-requires-2 : tie.Need-size-requires-2
+size-requires-2 c κs = rw (toZ-ofZ (c .before .before .before .fits .b)) (omega arith)
+
+module _ (c : tie.After-size) where
+  first-is : c .size .result ≡ natAbs (c .before .before .before .args .a)
+  first-is = simp (toZ-ofZ (c .before .before .before .fits .a)) at (c .size .ensures)
+
+  held : toZ w16 (c .size .result) ≡ pos (natAbs (c .before .before .before .args .a))
+  held = rw first-is (toZ-pos w16 (omega arith))
+
+module _ (c : tie.After-size2) where
+  second-is : c .size2 .result ≡ natAbs (c .before .before .before .before .args .b)
+  second-is = simp (toZ-ofZ (c .before .before .before .before .fits .b)) at (c .size2 .ensures)
+
+  held-2 : toZ w16 (c .size2 .result) ≡ pos (natAbs (c .before .before .before .before .args .b))
+  held-2 = rw second-is (toZ-pos w16 (omega arith))
+
+cast-lower-of : tie.Need-cast-lower-of
+cast-lower-of c = record { sfits = omega (arith, first-is c) }
+
+cast-lower-of-2 : tie.Need-cast-lower-of-2
+cast-lower-of-2 c = record { sfits = omega (arith, second-is c) }
+
+lower-of-requires : tie.Need-lower-of-requires
+lower-of-requires c κs = search needs
+
+module _ (c : tie.After-lower-of) where
+  abbrev start : tie.Start
+  start = c .before .before .before .before .before
+
+  abbrev size : ℕ
+  size = min (natAbs (start .args .a)) (natAbs (start .args .b))
+
+  size-is : toZ w16 (ofZ w16 (c .lower-of .result)) ≡ pos size
+  size-is =
+      told (c .lower-of .ok) (c .lower-of .ensures)
+      ∙ rw (held (c .before .before), held-2 (c .before))
+      (lesser-size (natAbs (start .args .a)) (natAbs (start .args .b)))
+
+cast-scaled : tie.Need-cast-scaled
+cast-scaled c = rw (size-is c) (tt, omega arith)
+
+scaled-requires : tie.Need-scaled-requires
+scaled-requires c κs = rw (size-is c) (omega arith, omega arith)
 
 returns : tie.Need-returns
 unfolding f
 returns c =
-    let m = c .before .before .before .before in
-    let size = simp (smaller-is m) at (c .before .before .before .scaled .ensures) in
-    let first = simp (toZ-ofZ (start m .fits .a)) at (c .before .before .is-negative .ensures) in
-    let second = simp (toZ-ofZ (start m .fits .b)) at (c .before .is-negative2 .ensures) in
-    told (c .with-sign .ok) (c .with-sign .ensures)
-    ∙ simp (size, first, second) (unequal (isNegative (start m .args .a)) (isNegative (start m .args .b)) _)
+    let m = c .before in
+    let s = start m in
+    let first = simp (toZ-ofZ (s .fits .a)) at (m .before .before .before .before .is-negative .ensures) in
+    let second = simp (toZ-ofZ (s .fits .b)) at (m .before .before .before .is-negative2 .ensures) in
+    told (c .scaled .ok) (c .scaled .ensures)
+    ∙ simp (size-is m, first, second) (unequal (isNegative (s .args .a)) (isNegative (s .args .b)) _)
 
 pub min-sum-spec : {M : Type 1} → statement M
 min-sum-spec =
     tie.close
     (tie.spec
-    size-requires
-    size-requires-2
-    smaller-requires
-    scaled-requires
     is-negative-requires
     is-negative-requires-2
-    with-sign-requires
+    size-requires
+    cast-lower-of
+    size-requires-2
+    cast-lower-of-2
+    lower-of-requires
+    cast-scaled
+    scaled-requires
     returns)

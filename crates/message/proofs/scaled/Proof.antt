@@ -1,14 +1,18 @@
 use native.Mathlib.Omega.{arith}
 use borrow.Author.Needs.{needs}
-use Rattle.message.proofs.Machine.{product-le}
+use Rattle.calls.proofs.Signed.{told}
+use Rattle.message.proofs.Machine.{product-small, product-fits, quotient-small}
 use Rattle.message.proofs.scaled.Statement.{statement}
 use Rattle.message.proofs.scaled.Tie as tie
 
-mul-result : tie.Need-mul-result
-mul-result c = omega (arith, product-le (c .args .scale) (c .args .size) (c .pre .0) (c .pre .1))
+mul-product : tie.Need-mul-product
+mul-product c = product-fits _ _ (omega arith) (omega arith)
+
+with-sign-requires : tie.Need-with-sign-requires
+with-sign-requires c κs = search (product-small, quotient-small, needs)
 
 returns : tie.Need-returns
-returns c = search needs
+returns c = simp (told (c .with-sign .ok) (c .with-sign .ensures))
 
 pub scaled-spec : {M : Type 1} → statement M
-scaled-spec = tie.close (tie.spec mul-result returns)
+scaled-spec = tie.close (tie.spec mul-product with-sign-requires returns)
