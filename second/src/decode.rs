@@ -145,7 +145,8 @@ pub fn decode(
     Ok(decoded.ending)
 }
 
-fn write_out(decoded: &Decoded, lent: &mut Lent) {
+/// Writes outputs and messages to the first elements of the lent slices.
+pub fn write_out(decoded: &Decoded, lent: &mut Lent) {
     let outputs = &decoded.outputs;
     put(lent.soft, &outputs.soft);
     put(lent.coded_soft, &outputs.coded_soft);

@@ -5,8 +5,21 @@ pub struct Messages {
     m: usize,
     pub ceiling: i64,
     scale: i64,
+    /// What f makes of k times the smaller size and of its sign: `scaled`. The
+    /// self-test exchanges it for a wrong one.
+    pub scaling: fn(i64, bool) -> i64,
     pub left: Vec<Vec<i64>>,
     pub right: Vec<Vec<i64>>,
+}
+
+/// A product of k and a size, divided by 16 and cut down, with its sign.
+pub fn scaled(product: i64, negative: bool) -> i64 {
+    let size = product / 16;
+    if negative {
+        -size
+    } else {
+        size
+    }
 }
 
 impl Messages {
@@ -18,6 +31,7 @@ impl Messages {
             m,
             ceiling,
             scale,
+            scaling: scaled,
             left: zeros.clone(),
             right: zeros,
         };
@@ -42,12 +56,7 @@ impl Messages {
         if a == 0 || b == 0 {
             return 0;
         }
-        let size = self.scale * a.abs().min(b.abs()) / 16;
-        if (a < 0) == (b < 0) {
-            size
-        } else {
-            -size
-        }
+        (self.scaling)(self.scale * a.abs().min(b.abs()), (a < 0) != (b < 0))
     }
 
     /// One iteration: L by steps m-1 down to 0, then R by steps 0 up to m-1.

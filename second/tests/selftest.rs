@@ -19,6 +19,8 @@ const FAULTS: &[&str] = &[
     "reason_at_limit",
     "past_end",
     "workspace",
+    "signed_product_shifted",
+    "rounded_to_the_nearest",
     "refusal_writes",
     "fence",
     "tally_wraps",

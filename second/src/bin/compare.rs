@@ -52,6 +52,9 @@ mod selftest;
 #[path = "compare/selftest_frozen.rs"]
 mod selftest_frozen;
 #[cfg(feature = "selftest")]
+#[path = "compare/selftest_scaling.rs"]
+mod selftest_scaling;
+#[cfg(feature = "selftest")]
 #[path = "compare/selftest_texts.rs"]
 mod selftest_texts;
 #[path = "compare/show.rs"]

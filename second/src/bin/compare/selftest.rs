@@ -2,7 +2,7 @@
 //! without the other one. The environment variable VEDROGNE_WRONG names a
 //! fault that it then has; `compare` must find each of them.
 
-use crate::selftest_frozen;
+use crate::{selftest_frozen, selftest_scaling};
 use second::{Channel, Lent, Refusal, Settings, Tally};
 use std::slice::{from_raw_parts, from_raw_parts_mut};
 use std::sync::OnceLock;
@@ -200,7 +200,8 @@ impl Decoding<'_> {
         }
         let right = second::decode(settings, self.mask, self.llr, &mut self.lent)?;
         let block = (self.mask, self.llr);
-        let mut ending = selftest_frozen::with_faults(settings, block, &mut self.lent, right)?;
+        let scaled = selftest_scaling::with_faults(settings, block, &mut self.lent, right)?;
+        let mut ending = selftest_frozen::with_faults(settings, block, &mut self.lent, scaled)?;
         if wrong("reason_at_limit") && i64::from(ending.iterations) == settings.limit {
             ending.reason = 2;
         }
