@@ -1,4 +1,5 @@
--- What the arithmetic of messages computes in an `i16`: sums that fit, signs, a scaled size, and the cut.
+-- What the arithmetic of messages computes in an `i16`: sums that fit, signs, the smaller size, a scaled
+-- one, and the cut.
 use Prim.Native.Nat.{ℕ, zero, suc, _+_, _-_, _*_, _/_, _<_, _≤_, _^_, min}
 use mathlib.Core.Path.{_≡_, refl}
 use mathlib.Core.Bool.{Bool, true, false, not, cond, Bool·beq}

@@ -1,5 +1,5 @@
-use Prim.Native.Nat.{ℕ, _≤_, _<_, _^_, min}
-use mathlib.Core.Path.{_≡_, refl, _∙_}
+use Prim.Native.Nat.{ℕ, min}
+use mathlib.Core.Path.{_≡_, _∙_}
 use native.Mathlib.Omega.{arith}
 use lib.IntN.{pos, natAbs}
 use borrow.Author.Needs.{needs}
@@ -7,7 +7,6 @@ use mir.Syntax.{w16}
 use mir.Val.{toZ, ofZ}
 use mir.Facts.{toZ-ofZ, toZ-pos}
 use Rattle.calls.proofs.Signed.{told}
-use Rattle.calls.specs.Bounds.{largestCeiling}
 use Rattle.calls.specs.Signs.{isNegative}
 use Rattle.message.specs.Message.{f}
 use Rattle.message.proofs.Machine.{unequal, lesser-size}
@@ -26,19 +25,20 @@ size-requires c κs = rw (toZ-ofZ (c .before .before .fits .a)) (omega arith)
 size-requires-2 : tie.Need-size-requires-2
 size-requires-2 c κs = rw (toZ-ofZ (c .before .before .before .fits .b)) (omega arith)
 
+-- the two sizes, and what an `i16` holds of them
 module _ (c : tie.After-size) where
   first-is : c .size .result ≡ natAbs (c .before .before .before .args .a)
   first-is = simp (toZ-ofZ (c .before .before .before .fits .a)) at (c .size .ensures)
 
-  held : toZ w16 (c .size .result) ≡ pos (natAbs (c .before .before .before .args .a))
-  held = rw first-is (toZ-pos w16 (omega arith))
+  first-held : toZ w16 (c .size .result) ≡ pos (natAbs (c .before .before .before .args .a))
+  first-held = rw first-is (toZ-pos w16 (omega arith))
 
 module _ (c : tie.After-size2) where
   second-is : c .size2 .result ≡ natAbs (c .before .before .before .before .args .b)
   second-is = simp (toZ-ofZ (c .before .before .before .before .fits .b)) at (c .size2 .ensures)
 
-  held-2 : toZ w16 (c .size2 .result) ≡ pos (natAbs (c .before .before .before .before .args .b))
-  held-2 = rw second-is (toZ-pos w16 (omega arith))
+  second-held : toZ w16 (c .size2 .result) ≡ pos (natAbs (c .before .before .before .before .args .b))
+  second-held = rw second-is (toZ-pos w16 (omega arith))
 
 cast-lower-of : tie.Need-cast-lower-of
 cast-lower-of c = record { sfits = omega (arith, first-is c) }
@@ -59,7 +59,7 @@ module _ (c : tie.After-lower-of) where
   size-is : toZ w16 (ofZ w16 (c .lower-of .result)) ≡ pos size
   size-is =
       told (c .lower-of .ok) (c .lower-of .ensures)
-      ∙ rw (held (c .before .before), held-2 (c .before))
+      ∙ rw (first-held (c .before .before), second-held (c .before))
       (lesser-size (natAbs (start .args .a)) (natAbs (start .args .b)))
 
 cast-scaled : tie.Need-cast-scaled
