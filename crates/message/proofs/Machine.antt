@@ -3,7 +3,7 @@
 use Prim.Native.Nat.{ℕ, zero, suc, _+_, _-_, _*_, _/_, _<_, _≤_, _^_, min}
 use mathlib.Core.Path.{_≡_, refl}
 use mathlib.Core.Bool.{Bool, true, false, not, cond, Bool·beq}
-use native.Mathlib.Nat.{mul-le-mul, div-le-self, lt-of-le-of-lt}
+use native.Mathlib.Nat.{mul-le-mul, div-le-self, le-trans}
 use native.Mathlib.Omega.{arith}
 use lib.IntN.{ℤ, pos, negsuc, negℤ, natAbs, subℕ, _+ℤ_}
 use lib.Signed.{ltZ}
@@ -53,14 +53,14 @@ lesser-size x y = by-test (ltb x y) refl
     by-test true e = let h : x < y = ltb-true x y e in let m : min x y ≡ x = omega arith in simp m
     by-test false e = let h : y ≤ x = ltb-false x y e in let m : min x y ≡ y = omega arith in simp m
 
-pub product-small : (k n : ℕ) → k ≤ largestScale → n ≤ largestCeiling → k * n < 2 ^ 15
-product-small k n h g = omega (arith, mul-le-mul h g)
+pub product-le : (k n : ℕ) → k ≤ largestScale → n ≤ largestCeiling → k * n ≤ largestScale * largestCeiling
+product-le k n h g = mul-le-mul h g
 
 pub product-fits : (k n : ℕ) → k ≤ largestScale → n ≤ largestCeiling → Fits w16 (k * n)
-product-fits k n h g = record { fits = omega (arith, product-small k n h g) }
+product-fits k n h g = record { fits = omega (arith, product-le k n h g) }
 
-pub quotient-small : (n m : ℕ) → n < 2 ^ 15 → n / m < 2 ^ 15
-quotient-small n m h = lt-of-le-of-lt (div-le-self n m) h
+pub quotient-le : (n m bound : ℕ) → n ≤ bound → n / m ≤ bound
+quotient-le n m bound h = le-trans (div-le-self n m) h
 
 -- ---- the cut, from above and then from below
 

@@ -2,7 +2,7 @@
 // It sees `calls` alone. It promises document 01's f and its sum, cut after the single addition. Its functions are
 // offered to the crates above, which have tested ceiling and scale.
 ghost use mathlib.Core.Path.{_≡_};
-ghost use Prim.Native.Nat.{_*_, _/_, _^_, _<_, _≤_};
+ghost use Prim.Native.Nat.{_*_, _/_, _≤_};
 ghost use lib.IntN.{pos, natAbs};
 ghost use Rattle.calls.specs.Bounds.{largestCeiling, largestScale};
 ghost use Rattle.calls.specs.Signs.{isNegative, flipped};
@@ -46,7 +46,7 @@ fn is_negative(a: i16) -> bool
 
 // A size with its sign given back.
 fn with_sign(negative: bool, size: u16) -> i16
-    requires { ⌜ size < 2 ^ 15 ⌝ }
+    requires { ⌜ size ≤ largestScale * largestCeiling ⌝ }
     ensures { λ r. ⌜ r ≡ flipped negative (pos size) ⌝ }
 {
     let value = size as i16;
