@@ -5,15 +5,15 @@ pub struct Messages {
     m: usize,
     pub ceiling: i64,
     scale: i64,
-    /// What f makes of k times the smaller size and of its sign: `scaled`. The
-    /// self-test exchanges it for a wrong one.
+    /// What f makes of k times the smaller size and of the sign: `sixteenth`.
+    /// The self-test exchanges it for a wrong one.
     pub scaling: fn(i64, bool) -> i64,
     pub left: Vec<Vec<i64>>,
     pub right: Vec<Vec<i64>>,
 }
 
-/// A product of k and a size, divided by 16 and cut down, with its sign.
-pub fn scaled(product: i64, negative: bool) -> i64 {
+/// A product of k and a size, divided by 16 and cut down, with the sign.
+pub fn sixteenth(product: i64, negative: bool) -> i64 {
     let size = product / 16;
     if negative {
         -size
@@ -31,7 +31,7 @@ impl Messages {
             m,
             ceiling,
             scale,
-            scaling: scaled,
+            scaling: sixteenth,
             left: zeros.clone(),
             right: zeros,
         };

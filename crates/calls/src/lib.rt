@@ -3,7 +3,7 @@
 // promises that each answer has one number, 0 or a refusal's. Its small functions are offered to the crates above.
 ghost use mathlib.Core.Path.{_≡_};
 ghost use mathlib.Core.Bool.{_&&_};
-ghost use Prim.Native.Nat.{_≤_, min};
+ghost use Prim.Native.Nat.{_≤_};
 ghost use lib.IntN.{natAbs};
 ghost use Rattle.calls.specs.Bounds.{largestCeiling};
 ghost use Rattle.calls.specs.Numbers.{numberOf};
@@ -78,14 +78,9 @@ pub fn both(a: bool, b: bool) -> bool
     a & b
 }
 
-pub fn smaller(a: u16, b: u16) -> u16
-    ensures { λ r. ⌜ r ≡ min a b ⌝ }
-{
-    if a < b { a } else { b }
-}
-
 // The size of a message. The negation has 32 bits: of one with 16, which must not overflow, the compiler concludes that
-// a size is 0 or more, and takes the smaller of two as of unsigned numbers, for which SSE2 has no instruction.
+// a size is 0 or more, and where f compares two as signed numbers it compares unsigned ones, for which SSE2 has no
+// minimum of 16 bits.
 pub fn size(value: i16) -> u16
     requires { ⌜ natAbs value ≤ largestCeiling ⌝ }
     ensures { λ r. ⌜ r ≡ natAbs value ⌝ }

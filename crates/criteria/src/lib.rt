@@ -3,7 +3,7 @@
 // marks and criteria. Its functions are offered to the crates above, which have tested the settings and the lengths.
 ghost use mathlib.Core.Path.{_≡_};
 ghost use mathlib.Core.Bool.{true};
-ghost use Prim.Native.Nat.{_+_, _<_, _≤_, _^_};
+ghost use Prim.Native.Nat.{_+_, _<_, _≤_, _^_, min};
 ghost use lib.Dec.{eqb};
 ghost use lib.IntN.{pos};
 ghost use lib.ListN.{length, getD};
@@ -65,6 +65,12 @@ fn untied(marks: &[u8], n: usize) -> bool
     clear
 }
 
+fn smaller(a: u16, b: u16) -> u16
+    ensures { λ r. ⌜ r ≡ min a b ⌝ }
+{
+    if a < b { a } else { b }
+}
+
 // Criterion 2 of the first n soft values. It keeps the least size, which needs no branch.
 fn least_size(operand: u16, soft: &[i16], n: usize) -> bool
     requires { ⌜ SoftValues n (now soft) ⌝ }
@@ -73,7 +79,7 @@ fn least_size(operand: u16, soft: &[i16], n: usize) -> bool
     let mut least = 65535;
     let mut i = 0;
     while i < n {
-        least = calls::smaller(least, calls::size(soft[i]));
+        least = smaller(least, calls::size(soft[i]));
         i += 1;
     }
     operand <= least

@@ -6,11 +6,12 @@ use mathlib.Core.Bool.{Bool, true, false, not, cond, Bool·beq}
 use native.Mathlib.Nat.{mul-le-mul, div-le-self, le-trans}
 use native.Mathlib.Omega.{arith}
 use lib.IntN.{ℤ, pos, negsuc, negℤ, natAbs, subℕ, _+ℤ_}
-use lib.Signed.{ltZ}
+use lib.Signed.{ltZ, shrZ}
 use lib.Dec.{ltb}
 use borrow.Author.Tests.{le-ltb, ltb-true, ltb-false}
 use mir.Syntax.{w16}
-use mir.Val.{Fits, SFits}
+use mir.Val.{Fits, SFits, toZ, ofZ}
+use mir.Facts.{toZ-pos}
 use Rattle.calls.proofs.Signed.{size-fits}
 use Rattle.calls.specs.Bounds.{largestCeiling, largestScale}
 use Rattle.calls.specs.Signs.{flipped}
@@ -53,14 +54,24 @@ lesser-size x y = by-test (ltb x y) refl
     by-test true e = let h : x < y = ltb-true x y e in let m : min x y ≡ x = omega arith in simp m
     by-test false e = let h : y ≤ x = ltb-false x y e in let m : min x y ≡ y = omega arith in simp m
 
-pub product-le : (k n : ℕ) → k ≤ largestScale → n ≤ largestCeiling → k * n ≤ largestScale * largestCeiling
-product-le k n h g = mul-le-mul h g
+pub product-le : (k n : ℕ) → k ≤ largestScale → n ≤ largestCeiling → k * n ≤ 32767
+product-le k n h g = omega (arith, mul-le-mul h g)
 
 pub product-fits : (k n : ℕ) → k ≤ largestScale → n ≤ largestCeiling → Fits w16 (k * n)
 product-fits k n h g = record { fits = omega (arith, product-le k n h g) }
 
+pub product-fits-signed : (k n : ℕ) → k ≤ largestScale → n ≤ largestCeiling → SFits w16 (pos (k * n))
+product-fits-signed k n h g = record { sfits = omega (arith, product-le k n h g) }
+
 pub quotient-le : (n m bound : ℕ) → n ≤ bound → n / m ≤ bound
 quotient-le n m bound h = le-trans (div-le-self n m) h
+
+-- what an `i16` holds of a number, and of a shifted one
+pub held-le : (n : ℕ) → n ≤ 32767 → natAbs (toZ w16 n) ≤ 32767
+held-le n h = rw (toZ-pos w16 {n = n} (omega arith)) h
+
+pub shifted-le : (n m : ℕ) → n ≤ 32767 → natAbs (toZ w16 (ofZ w16 (shrZ (toZ w16 n) m))) ≤ 32767
+shifted-le n m h = rw (toZ-pos w16 {n = n} (omega arith)) (held-le (n / m) (quotient-le n m 32767 h))
 
 -- ---- the cut, from above and then from below
 

@@ -1,4 +1,4 @@
--- Definitions for the contracts of private functions: what the code of a cut sum computes on the way. A reader of the
+-- Definitions for the contracts of private functions: what the code of f and of a cut sum computes. A reader of the
 -- contracts of `add_cut` and `min_sum` needs none of it.
 use mathlib.Core.Bool.{cond}
 use lib.IntN.{ℤ}

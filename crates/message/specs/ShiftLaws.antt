@@ -1,23 +1,23 @@
--- Laws of a shift to the right, as the machine has it for unsigned and for signed numbers of every width w. Of a signed
--- number it copies the sign bit, and so rounds down; of a size, held as either, it is the quotient, cut down.
+-- Laws of a shift to the right, of a signed number of every width w, as the machine has it (for fewer places than the
+-- width). It copies the sign bit, so that it rounds down (`shrZ`): of a size that the width holds it is the quotient,
+-- cut down; of a negative number it is not.
 use Prim.Native.Nat.{ℕ, _*_, _/_, _<_, _^_, min}
-use mathlib.Core.Path.{_≡_, refl}
-use lib.IntN.{ℤ, natAbs}
-use mir.Syntax.{Width, Sign, unsigned, signed, shr}
-use mir.Val.{bytes, hbits, vint, op2Val}
+use mathlib.Core.Path.{_≡_}
+use native.Mathlib.Nat.{div-le-self, lt-of-le-of-lt}
+use lib.IntN.{ℤ, pos, natAbs}
+use lib.Signed.{shrZ}
+use mir.Syntax.{Width}
+use mir.Val.{hbits, toZ, ofZ}
 use mir.Facts.{toZ-pos}
-use borrow.Author.Tests.{eq-eqb}
 use Rattle.message.specs.Message.{f}
 use Rattle.message.specs.MessageLaws.{f-size-is}
 use Rattle.message.specs.declared.MinSum.{MinSum}
 
-pub shifted-size : (s : Sign) (w : Width) (size places : ℕ) → size < 2 ^ hbits w
-    → op2Val (shr s) (vint w size) (vint w places) ≡ vint w (size / 2 ^ places)
-shifted-size unsigned w size places h = rw (eq-eqb (bytes w) (bytes w) refl) refl
-shifted-size signed w size places h = rw (eq-eqb (bytes w) (bytes w) refl, toZ-pos w h) refl
+pub shifted-size : (w : Width) (size places : ℕ) → size < 2 ^ hbits w
+    → toZ w (ofZ w (shrZ (toZ w size) (2 ^ places))) ≡ pos (size / 2 ^ places)
+shifted-size w size places h = rw (toZ-pos w h) (toZ-pos w (lt-of-le-of-lt (div-le-self size (2 ^ places)) h))
 
 -- k times the smaller size, shifted by 4 places, is the size of f (request 2026-03)
-pub f-shifted : (s : Sign) (w : Width) (rule : MinSum) (a b : ℤ)
-    → rule .scale * min (natAbs a) (natAbs b) < 2 ^ hbits w
-    → op2Val (shr s) (vint w (rule .scale * min (natAbs a) (natAbs b))) (vint w 4) ≡ vint w (natAbs (f rule a b))
-f-shifted s w rule a b h = rw (f-size-is rule a b) (shifted-size s w (rule .scale * min (natAbs a) (natAbs b)) 4 h)
+pub f-shifted : (w : Width) (rule : MinSum) (a b : ℤ) → rule .scale * min (natAbs a) (natAbs b) < 2 ^ hbits w
+    → toZ w (ofZ w (shrZ (toZ w (rule .scale * min (natAbs a) (natAbs b))) 16)) ≡ pos (natAbs (f rule a b))
+f-shifted w rule a b h = rw (f-size-is rule a b) (shifted-size w (rule .scale * min (natAbs a) (natAbs b)) 4 h)

@@ -16,16 +16,16 @@ pub struct MinSum {
     pub scale: u16,
 }
 
-fn lower_of(value: i16, limit: i16) -> i16
-    ensures { λ r. ⌜ r ≡ lesser value limit ⌝ }
+fn lower_of(a: i16, b: i16) -> i16
+    ensures { λ r. ⌜ r ≡ lesser a b ⌝ }
 {
-    if value < limit { value } else { limit }
+    if a < b { a } else { b }
 }
 
-fn higher_of(value: i16, limit: i16) -> i16
-    ensures { λ r. ⌜ r ≡ greater value limit ⌝ }
+fn higher_of(a: i16, b: i16) -> i16
+    ensures { λ r. ⌜ r ≡ greater a b ⌝ }
 {
-    if value < limit { limit } else { value }
+    if a < b { b } else { a }
 }
 
 // The sum of two messages, cut to the range from -C to C: from above, then from below.
@@ -45,25 +45,24 @@ fn is_negative(a: i16) -> bool
 }
 
 // A size with its sign given back.
-fn with_sign(negative: bool, size: u16) -> i16
-    requires { ⌜ size ≤ largestScale * largestCeiling ⌝ }
-    ensures { λ r. ⌜ r ≡ flipped negative (pos size) ⌝ }
+fn with_sign(negative: bool, size: i16) -> i16
+    requires { ⌜ natAbs size ≤ 32767 ⌝ }
+    ensures { λ r. ⌜ r ≡ flipped negative size ⌝ }
 {
-    let value = size as i16;
-    if negative { -value } else { value }
+    if negative { -size } else { size }
 }
 
-// A size scaled, and its sign given back afterwards. The shift by 4 places is the quotient by 16, cut down, of a size
-// alone: of a negative product it would be one rounded down, -3 of -45.
+// A size scaled, and its sign given back afterwards. Of a size the shift by 4 places is the quotient by 16, cut down; of
+// a negative product it would be rounded down, -3 of -45.
 fn scaled(scale: u16, negative: bool, size: u16) -> i16
     requires { ⌜ (scale ≤ largestScale) × (size ≤ largestCeiling) ⌝ }
     ensures { λ r. ⌜ r ≡ flipped negative (pos (scale * size / 16)) ⌝ }
 {
-    let product = scale * size;
+    let product = (scale * size) as i16;
     with_sign(negative, product >> 4)
 }
 
-// f of two messages. The sizes are compared as signed numbers: SSE2 has a minimum of those alone.
+// f of two messages. The sizes are compared as signed numbers: of 16 bits, SSE2 has a minimum of those alone.
 pub fn min_sum(rule: MinSum, a: i16, b: i16) -> i16
     requires { ⌜ RuleInRange rule ⌝ }
     requires { ⌜ (natAbs a ≤ rule .ceiling) × (natAbs b ≤ rule .ceiling) ⌝ }

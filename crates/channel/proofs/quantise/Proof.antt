@@ -22,7 +22,7 @@ use Rattle.channel.proofs.Fields.{quantised-bits}
 use Rattle.channel.proofs.quantise.Statement.{statement}
 use Rattle.channel.proofs.quantise.Tie as tie
 
--- the two fields below the sign, taken out of the bits by a mask, are remainders
+-- the two fields below the sign, which masks and a shift take out of the bits, by remainders and a quotient
 module _ (c : tie.After-rounded-size) where
   abbrev bits : ℕ
   bits = toBits binary32 (c .before .args .value)

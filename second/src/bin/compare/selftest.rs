@@ -200,8 +200,8 @@ impl Decoding<'_> {
         }
         let right = second::decode(settings, self.mask, self.llr, &mut self.lent)?;
         let block = (self.mask, self.llr);
-        let scaled = selftest_scaling::with_faults(settings, block, &mut self.lent, right)?;
-        let mut ending = selftest_frozen::with_faults(settings, block, &mut self.lent, scaled)?;
+        let ending = selftest_scaling::with_faults(settings, block, &mut self.lent, right)?;
+        let mut ending = selftest_frozen::with_faults(settings, block, &mut self.lent, ending)?;
         if wrong("reason_at_limit") && i64::from(ending.iterations) == settings.limit {
             ending.reason = 2;
         }

@@ -14,7 +14,7 @@ fn wrong_scaling() -> Option<fn(i64, bool) -> i64> {
     }
     // Wrong: the size is rounded to the nearest.
     if wrong("rounded_to_the_nearest") {
-        return Some(|product, negative| second::messages::scaled(product + 8, negative));
+        return Some(|product, negative| second::messages::sixteenth(product + 8, negative));
     }
     None
 }
