@@ -52,8 +52,8 @@ fn with_sign(negative: bool, size: i16) -> i16
     if negative { -size } else { size }
 }
 
-// A size scaled, and its sign given back afterwards. Of a size the shift by 4 places is the quotient by 16, cut down; of
-// a negative product it would be rounded down, -3 of -45.
+// A size scaled, and its sign given back afterwards. Of a size the shift by 4 places is the quotient by 16, cut down;
+// of a negative product it would be rounded down, -3 of -45.
 fn scaled(scale: u16, negative: bool, size: u16) -> i16
     requires { ⌜ (scale ≤ largestScale) × (size ≤ largestCeiling) ⌝ }
     ensures { λ r. ⌜ r ≡ flipped negative (pos (scale * size / 16)) ⌝ }
