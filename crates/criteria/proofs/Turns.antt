@@ -1,14 +1,15 @@
 -- One turn of the loops: what the element at i adds to what the first i give.
-use Prim.Native.Nat.{ℕ, zero, suc, _+_, min}
+use Prim.Native.Nat.{ℕ, zero, suc, _+_, _≤_, min}
 use mathlib.Core.Path.{_≡_, refl, ap, _∙_}
 use mathlib.Core.Bool.{Bool, true, false, _&&_}
 use native.Mathlib.Numerals.{add-one}
 use native.Mathlib.Omega.{arith}
 use borrow.Author.Tests.{le-leb, lt-leb, leb-true, leb-false}
 use lib.Dec.{leb}
-use lib.IntN.{ℤ, natAbs}
-use Rattle.criteria.specs.Criteria.{leastSize}
+use Rattle.polar.specs.Mask.{byKind}
+use Rattle.polar.specs.MaskLaws.{kind-ap}
 use Rattle.criteria.specs.Memory.{steadyNext}
+use Rattle.calls.specs.Every.{every}
 use Rattle.calls.specs.EveryLaws.{every-next}
 
 -- a bound is at most the smaller of two where it is at most both
@@ -20,11 +21,17 @@ min-leb o a b = go (leb o a) (leb o b) refl refl
     go true false p q = lt-leb o (min a b) (omega (arith, leb-false o b q))
     go false t p q = lt-leb o (min a b) (omega (arith, leb-false o a p))
 
-pub least-next : (soft : ℕ → ℤ) (operand i least size : ℕ) → leb operand least ≡ leastSize i operand soft
-    → size ≡ natAbs (soft i)
-    → leb operand (min least size) ≡ leastSize (i + 1) operand soft
-least-next soft operand i least size h e =
-    min-leb operand least size ∙ every-next i (λ i. leb operand (natAbs (soft i))) h (ap (leb operand) e)
+-- a least size, taken one on
+pub least-next : (operand i least size : ℕ) (P : ℕ → Bool) → leb operand least ≡ every i P → leb operand size ≡ P i
+    → leb operand (min least size) ≡ every (i + 1) P
+least-next operand i least size P h e = min-leb operand least size ∙ every-next i P h e
+
+-- the largest number, at a frozen position, stands in no operand's way
+pub size-seen : (operand kind size : ℕ) → operand ≤ 65535
+    → leb operand (byKind kind size (λ bit. 65535)) ≡ byKind kind (leb operand size) (λ bit. true)
+size-seen operand kind size h =
+    kind-ap (leb operand) size (λ bit. 65535) kind
+    ∙ ap (λ (b : Bool). byKind kind (leb operand size) (λ bit. b)) (le-leb operand 65535 h)
 
 -- ---- the steady count after an iteration that is not the first
 

@@ -1,4 +1,5 @@
--- Document 01, "Endings": the criteria. They read marks, soft values and the mask, never messages. Definitions only.
+-- Document 01, "Endings": the criteria, and that of 2026-04. They read marks, soft values and the mask, never messages.
+-- Definitions only.
 use Prim.Native.Nat.{ℕ, suc, _-_, _^_}
 use mathlib.Core.Bool.{Bool, true, false, not, _&&_, Bool·beq}
 use mathlib.Core.List.{List}
@@ -10,7 +11,13 @@ use Rattle.calls.specs.Bits.{bitOf}
 use Rattle.polar.specs.Mask.{byKind}
 use Rattle.polar.specs.Code.{coded}
 use Rattle.criteria.specs.declared.Criterion.{Criterion}
-use Rattle.criteria.specs.declared.Criterion.the-variants.{Never, GMatrix, LeastSize, Steady}
+use Rattle.criteria.specs.declared.Criterion.the-variants.{
+  Never,
+  GMatrix,
+  LeastSize,
+  Steady,
+  LeastInformationSize,
+}
 use Rattle.criteria.specs.Marks.{markOf}
 
 -- 1, G-matrix: no tie among marks or coded marks, and the marks coded give the coded marks
@@ -34,6 +41,12 @@ sameMarks n mask before now = every n (λ i. byKind (getD mask i 0) (eqb (before
 abbrev pub steady : ℕ → (ℕ → Bool) → ℕ → Bool
 steady W same t = leb (suc W) t && every W (λ k. same (t - k))
 
+-- 4, least size of information positions (2026-04): every information position's soft output has size at least the
+-- operand
+abbrev pub leastInformationSize : ℕ → ℕ → List ℕ → (ℕ → ℤ) → Bool
+leastInformationSize n operand mask soft =
+    every n (λ i. byKind (getD mask i 0) (leb operand (natAbs (soft i))) (λ bit. true))
+
 -- whether the criterion holds after iteration t, where soft t i and codedSoft t i are the soft
 -- outputs of iteration t at position i
 abbrev pub holds : ℕ → Criterion → List ℕ → (ℕ → ℕ → ℤ) → (ℕ → ℕ → ℤ) → ℕ → Bool
@@ -42,3 +55,4 @@ holds m GMatrix mask soft codedSoft t = gMatrix m (λ i. markOf (soft t i)) (λ 
 holds m (LeastSize operand) mask soft codedSoft t = leastSize (2 ^ m) operand (soft t)
 holds m (Steady W) mask soft codedSoft t =
     steady W (λ j. sameMarks (2 ^ m) mask (λ i. markOf (soft (j - 1) i)) (λ i. markOf (soft j i))) t
+holds m (LeastInformationSize operand) mask soft codedSoft t = leastInformationSize (2 ^ m) operand mask (soft t)

@@ -15,9 +15,23 @@ use Rattle.polar.specs.Mask.{byKind}
 use Rattle.polar.specs.Code.{coded}
 use Rattle.polar.specs.TransformLaws.{coded-xor, coded-same}
 use Rattle.criteria.specs.declared.Criterion.{Criterion}
-use Rattle.criteria.specs.declared.Criterion.the-variants.{Never, GMatrix, LeastSize, Steady}
+use Rattle.criteria.specs.declared.Criterion.the-variants.{
+  Never,
+  GMatrix,
+  LeastSize,
+  Steady,
+  LeastInformationSize,
+}
 use Rattle.criteria.specs.Marks.{markOf}
-use Rattle.criteria.specs.Criteria.{untied, gMatrix, leastSize, sameMarks, steady, holds}
+use Rattle.criteria.specs.Criteria.{
+  untied,
+  gMatrix,
+  leastSize,
+  sameMarks,
+  steady,
+  leastInformationSize,
+  holds,
+}
 use Rattle.criteria.specs.Memory.{keptMarks}
 use Rattle.calls.specs.NumberLaws.{and-passed}
 use Rattle.calls.specs.EveryLaws.{every-same, every-at, where-true}
@@ -44,6 +58,13 @@ g-matrix-same m mark mark′ codedMark codedMark′ h k =
 pub least-size-same : (n operand : ℕ) (soft soft′ : ℕ → ℤ) → ((i : ℕ) → i < n → soft i ≡ soft′ i)
     → leastSize n operand soft ≡ leastSize n operand soft′
 least-size-same n operand soft soft′ h = every-same n _ _ (λ i l. ap (λ (z : ℤ). leb operand (natAbs z)) (h i l))
+
+pub least-information-size-same : (n operand : ℕ) (mask : List ℕ) (soft soft′ : ℕ → ℤ)
+    → ((i : ℕ) → i < n → soft i ≡ soft′ i)
+    → leastInformationSize n operand mask soft ≡ leastInformationSize n operand mask soft′
+least-information-size-same n operand mask soft soft′ h =
+    every-same n _ _ (λ i l.
+    ap (λ (z : ℤ). byKind (getD mask i 0) (leb operand (natAbs z)) (λ bit. true)) (h i l))
 
 pub same-marks-same : (n : ℕ) (mask : List ℕ) (before before′ now now′ : ℕ → ℕ)
     → ((i : ℕ) → i < n → before i ≡ before′ i)
@@ -97,6 +118,13 @@ module _ (n : ℕ) (b : ℕ → Bool) (soft soft′ : ℕ → ℤ) (flips : (i :
   least-size-flipped operand =
       every-same n _ _ (λ i l. ap (leb operand) (ap natAbs (flips i l) ∙ size-flipped (b i) (soft i)))
 
+  pub least-information-size-flipped : (operand : ℕ) (mask : List ℕ)
+      → leastInformationSize n operand mask soft′ ≡ leastInformationSize n operand mask soft
+  least-information-size-flipped operand mask =
+      every-same n _ _ (λ i l.
+      ap (λ (size : ℕ). byKind (getD mask i 0) (leb operand size) (λ bit. true))
+      (ap natAbs (flips i l) ∙ size-flipped (b i) (soft i)))
+
   turned : untied n (λ i. markOf (soft i)) ≡ true → (i : ℕ) → i < n
       → bitOf (markOf (soft′ i)) ≡ xor (b i) (bitOf (markOf (soft i)))
   turned e i l = rw (flips i l) (bit-flipped (b i) (soft i) (every-at n i (λ i. not (eqb (markOf (soft i)) 2)) e l))
@@ -149,3 +177,5 @@ module _ (m : ℕ) (u : ℕ → Bool) (mask : List ℕ) (soft soft′ codedSoft 
   holds-flipped (Steady W) t =
       steady-same W t (keptMarks m mask soft′) (keptMarks m mask soft) (λ j.
       same-marks-flipped (2 ^ m) u (soft j) (soft′ j) (flips j) mask (soft (j - 1)) (soft′ (j - 1)) (flips (j - 1)))
+  holds-flipped (LeastInformationSize operand) t =
+      least-information-size-flipped (2 ^ m) u (soft t) (soft′ t) (flips t) operand mask

@@ -8,10 +8,16 @@ use mathlib.Core.List.{List}
 use lib.Dec.{leb}
 use lib.IntN.{ℤ}
 use Rattle.criteria.specs.declared.Criterion.{Criterion}
-use Rattle.criteria.specs.declared.Criterion.the-variants.{Never, GMatrix, LeastSize, Steady}
+use Rattle.criteria.specs.declared.Criterion.the-variants.{
+  Never,
+  GMatrix,
+  LeastSize,
+  Steady,
+  LeastInformationSize,
+}
 use Rattle.criteria.specs.declared.Memory.{Memory}
 use Rattle.criteria.specs.Marks.{markOf}
-use Rattle.criteria.specs.Criteria.{gMatrix, leastSize, sameMarks}
+use Rattle.criteria.specs.Criteria.{gMatrix, leastSize, sameMarks, leastInformationSize}
 
 -- ---- the steady count
 
@@ -36,6 +42,7 @@ countFor Never count = 0
 countFor GMatrix count = 0
 countFor (LeastSize operand) count = 0
 countFor (Steady W) count = count
+countFor (LeastInformationSize operand) count = 0
 
 -- ---- what is remembered
 
@@ -64,3 +71,5 @@ holdsNow m Never mask memory soft mark codedMark = false
 holdsNow m GMatrix mask memory soft mark codedMark = gMatrix m mark codedMark
 holdsNow m (LeastSize operand) mask memory soft mark codedMark = leastSize (2 ^ m) operand soft
 holdsNow m (Steady W) mask memory soft mark codedMark = leb W (memory .steady)
+holdsNow m (LeastInformationSize operand) mask memory soft mark codedMark =
+    leastInformationSize (2 ^ m) operand mask soft

@@ -11,7 +11,13 @@ use lib.Dec.{leb, leb·suc-zero, leb·suc-suc}
 use lib.IntN.{ℤ}
 use borrow.Author.Tests.{le-leb, lt-leb}
 use Rattle.criteria.specs.declared.Criterion.{Criterion}
-use Rattle.criteria.specs.declared.Criterion.the-variants.{Never, GMatrix, LeastSize, Steady}
+use Rattle.criteria.specs.declared.Criterion.the-variants.{
+  Never,
+  GMatrix,
+  LeastSize,
+  Steady,
+  LeastInformationSize,
+}
 use Rattle.criteria.specs.declared.Memory.{Memory}
 use Rattle.criteria.specs.Marks.{markOf}
 use Rattle.calls.specs.Every.{every}
@@ -28,7 +34,12 @@ use Rattle.criteria.specs.Memory.{
 }
 use Rattle.criteria.specs.Private.{mostRemembered, MemoryInRange}
 use Rattle.calls.specs.EveryLaws.{every-same, every-first}
-use Rattle.criteria.specs.CriteriaLaws.{g-matrix-same, least-size-same, same-marks-same}
+use Rattle.criteria.specs.CriteriaLaws.{
+  g-matrix-same,
+  least-size-same,
+  same-marks-same,
+  least-information-size-same,
+}
 
 -- ---- the steady count
 
@@ -84,6 +95,7 @@ memory-begins m Never mask soft codedSoft = refl
 memory-begins m GMatrix mask soft codedSoft = refl
 memory-begins m (LeastSize operand) mask soft codedSoft = refl
 memory-begins m (Steady W) mask soft codedSoft = refl
+memory-begins m (LeastInformationSize operand) mask soft codedSoft = refl
 
 -- ---- one iteration more
 
@@ -96,6 +108,7 @@ module _ (m : ℕ) (criterion : Criterion) (mask : List ℕ) (soft codedSoft : �
   count-le GMatrix = zero-le
   count-le (LeastSize operand) = zero-le
   count-le (Steady W) = steady-count-le kept-at t
+  count-le (LeastInformationSize operand) = zero-le
 
   pub memory-in-range : {memory : Memory} → memory ≡ memoryAfter m criterion mask soft codedSoft t → t < mostRemembered
       → MemoryInRange memory
@@ -121,6 +134,7 @@ module _ (m : ℕ) (criterion : Criterion) (mask : List ℕ) (soft codedSoft : �
     count-next Never = refl
     count-next GMatrix = refl
     count-next (LeastSize operand) = refl
+    count-next (LeastInformationSize operand) = refl
     count-next (Steady W) = steady-from t same-kept
       where
         steady-from : (n : ℕ) → (1 ≤ n → same ≡ kept-at (suc n))
@@ -145,6 +159,8 @@ module _ (m : ℕ) (criterion : Criterion) (mask : List ℕ) (soft codedSoft : �
         by-criterion GMatrix = g-matrix-same m _ _ codedMark _ (λ i l. ap markOf (values i l)) codedMarks
         by-criterion (LeastSize operand) = least-size-same (2 ^ m) operand value (soft (suc t)) values
         by-criterion (Steady W) = steady-count W kept-at (suc t) (omega arith)
+        by-criterion (LeastInformationSize operand) =
+            least-information-size-same (2 ^ m) operand mask value (soft (suc t)) values
 
 -- the criterion reads the first 2 ^ m places alone
 pub memory-next-same : (m : ℕ) (criterion : Criterion) (mask : List ℕ) (memory : Memory) (before : ℕ → ℕ)
@@ -168,3 +184,5 @@ holds-now-same m GMatrix mask memory soft soft′ mark mark′ coded coded′ es
 holds-now-same m (LeastSize operand) mask memory soft soft′ mark mark′ coded coded′ es em ec =
     least-size-same (2 ^ m) operand soft soft′ es
 holds-now-same m (Steady W) mask memory soft soft′ mark mark′ coded coded′ es em ec = refl
+holds-now-same m (LeastInformationSize operand) mask memory soft soft′ mark mark′ coded coded′ es em ec =
+    least-information-size-same (2 ^ m) operand mask soft soft′ es

@@ -5,14 +5,14 @@ ghost use mathlib.Core.Path.{_≡_};
 ghost use mathlib.Core.Bool.{true};
 ghost use Prim.Native.Nat.{_+_, _<_, _≤_, _^_, min};
 ghost use lib.Dec.{eqb};
-ghost use lib.IntN.{pos};
+ghost use lib.IntN.{pos, natAbs};
 ghost use lib.ListN.{length, getD};
-ghost use Rattle.calls.specs.Bounds.{largestM};
+ghost use Rattle.calls.specs.Bounds.{largestM, largestCeiling};
 ghost use Rattle.polar.specs.Mask.{byKind};
 ghost use Rattle.calls.specs.LentMemory.{overwrite};
 ghost use Rattle.criteria.specs.Marks.{markOf};
 ghost use Rattle.calls.specs.Every.{every};
-ghost use Rattle.criteria.specs.Criteria.{untied, gMatrix, leastSize, sameMarks};
+ghost use Rattle.criteria.specs.Criteria.{untied, gMatrix, leastSize, sameMarks, leastInformationSize};
 ghost use Rattle.criteria.specs.Memory.{steadyNext, countFor, nothing, memoryNext, holdsNow};
 ghost use Rattle.criteria.specs.Private.{SoftValues, MarkBytes, mostRemembered, MemoryInRange, CriterionTried};
 use calls::MOST_POSITIONS;
@@ -23,6 +23,7 @@ pub enum Criterion {
     GMatrix,
     LeastSize(u16),
     Steady(u32),
+    LeastInformationSize(u16),
 }
 
 // The mark of a soft value.
@@ -80,6 +81,31 @@ fn least_size(operand: u16, soft: &[i16], n: usize) -> bool
     let mut i = 0;
     while i < n {
         least = smaller(least, calls::size(soft[i]));
+        i += 1;
+    }
+    operand <= least
+}
+
+// The size that criterion 4 sees at a position: at a frozen one, where it doesn't look, the largest number, which no
+// operand is above. Both are at hand, so that the loop around it chooses without a branch.
+fn information_size(kind: u8, value: i16) -> u16
+    requires { ⌜ natAbs value ≤ largestCeiling ⌝ }
+    ensures { λ r. ⌜ r ≡ byKind kind (natAbs value) (λ bit. 65535) ⌝ }
+{
+    let size = calls::size(value);
+    if polar::is_information(kind) { size } else { 65535 }
+}
+
+// Criterion 4 of the first n soft values.
+fn least_information_size(operand: u16, mask: &[u8], soft: &[i16], n: usize) -> bool
+    requires { ⌜ (n ≤ length (now mask)) × SoftValues n (now soft) ⌝ }
+    ensures { λ r. ⌜ r
+        ≡ leastInformationSize n operand (now (mask .entry)) (λ i. getD (now (soft .entry)) i (pos 0)) ⌝ }
+{
+    let mut least = 65535;
+    let mut i = 0;
+    while i < n {
+        least = smaller(least, information_size(mask[i], soft[i]));
         i += 1;
     }
     operand <= least
@@ -209,6 +235,7 @@ impl Memory {
             Criterion::Never => 0,
             Criterion::GMatrix => 0,
             Criterion::LeastSize(_) => 0,
+            Criterion::LeastInformationSize(_) => 0,
             Criterion::Steady(_) => {
                 let iterations = self.iterations;
                 let steady = self.steady;
@@ -263,6 +290,9 @@ fn holds_now(
         Criterion::GMatrix => g_matrix(m, marks, coded),
         Criterion::LeastSize(operand) => least_size(operand, soft, polar::power_of_two(m)),
         Criterion::Steady(iterations) => iterations <= memory.steady,
+        Criterion::LeastInformationSize(operand) => {
+            least_information_size(operand, mask, soft, polar::power_of_two(m))
+        }
     }
 }
 

@@ -34,6 +34,15 @@ module _ {A : Type 0} (atInformation : A) (atFrozen : Bool → A) where
       go information = one
       go (frozen bit) = other bit
 
+-- a function of what the byte chooses is the choice between its values
+pub kind-ap : {A B : Type 0} (f : A → B) (atInformation : A) (atFrozen : Bool → A) (byte : ℕ)
+    → f (byKind byte atInformation atFrozen) ≡ byKind byte (f atInformation) (λ bit. f (atFrozen bit))
+kind-ap f atInformation atFrozen byte = go (kindOf byte)
+  where
+    go : (k : Kind) → f (onKind k atInformation atFrozen) ≡ onKind k (f atInformation) (λ bit. f (atFrozen bit))
+    go information = refl
+    go (frozen bit) = refl
+
 -- a sign that is turned at information positions alone comes out of the choice
 pub kind-flipped : (z z′ : ℤ) (atFrozen : Bool → ℤ) (byte : ℕ) (b : Bool) → (isInformation byte ≡ false → b ≡ false)
     → z′ ≡ flipped b z → byKind byte z′ atFrozen ≡ flipped b (byKind byte z atFrozen)

@@ -25,6 +25,17 @@ least-size-requires c κs =
 enum-known-criterion-2 : tie.Need-enum-known-criterion-2
 enum-known-criterion-2 c = search needs
 
+enum-known-criterion-3 : tie.Need-enum-known-criterion-3
+enum-known-criterion-3 c = search needs
+
+power-of-two-requires-2 : tie.Need-power-of-two-requires-2
+power-of-two-requires-2 c κs = search needs
+
+least-information-size-requires : tie.Need-least-information-size-requires
+least-information-size-requires c κs =
+    let s = c .before .before .before .before .before .before .before in
+    rw (c .power-of-two2 .ensures) (s .pre .1 .0, s .pre .1 .1 .0)
+
 returns : tie.Need-returns
 returns c = search needs
 
@@ -39,6 +50,11 @@ returns-3 c =
 returns-4 : tie.Need-returns-4
 returns-4 c = rw (c .before .before .criterion2 .given .1)
 
+returns-5 : tie.Need-returns-5
+returns-5 c =
+    rw (c .before .before .before .criterion3 .given .1)
+    (rw (c .before .power-of-two2 .ensures) at (c .least-information-size .ensures))
+
 pub holds-now-spec : {M : Type 1} → statement M
 holds-now-spec =
     tie.close
@@ -50,7 +66,11 @@ holds-now-spec =
     power-of-two-requires
     least-size-requires
     enum-known-criterion-2
+    enum-known-criterion-3
+    power-of-two-requires-2
+    least-information-size-requires
     returns
     returns-2
     returns-3
-    returns-4)
+    returns-4
+    returns-5)

@@ -55,8 +55,10 @@ loop-again c =
     let turn = c .before .before .before in
     let at = turn .before in
     let size = c .before .size .ensures ∙ ap natAbs (small-kept (value turn) (small turn)) in
-    let next = least-next (λ j. getD (at .before .args .soft .now) j (pos 0)) (at .before .args .operand) (at .loop .i)
-    (at .loop .least) _ (at .loop .inv .1) size in
+    let operand = at .before .args .operand in
+    let next = least-next operand (at .loop .i) (at .loop .least) _
+    (λ j. leb operand (natAbs (getD (at .before .args .soft .now) j (pos 0)))) (at .loop .inv .1)
+    (ap (leb operand) size) in
     (omega arith, rw (c .smaller .ensures) next)
 
 returns : tie.Need-returns Inv-loop μ-loop

@@ -16,6 +16,9 @@ enum-told-3 c = search needs
 enum-told-4 : tie.Need-enum-told-4
 enum-told-4 c = search needs
 
+enum-told-5 : tie.Need-enum-told-5
+enum-told-5 c = search needs
+
 power-of-two-requires : tie.Need-power-of-two-requires
 power-of-two-requires c κs = search needs
 
@@ -35,11 +38,14 @@ returns-3 : tie.Need-returns-3
 returns-3 c = search needs
 
 returns-4 : tie.Need-returns-4
-returns-4 c =
+returns-4 c = search needs
+
+returns-5 : tie.Need-returns-5
+returns-5 c =
     let compared = c .before in
     let powered = compared .before in
     c .steady-after .ensures
-    ∙ rw (powered .before .enum-told4 .given .1, compared .same-marks .ensures, powered .power-of-two .ensures)
+    ∙ rw (powered .before .enum-told5 .given .1, compared .same-marks .ensures, powered .power-of-two .ensures)
 
 pub steady-next-spec : {M : Type 1} → statement M
 steady-next-spec =
@@ -49,10 +55,12 @@ steady-next-spec =
     enum-told-2
     enum-told-3
     enum-told-4
+    enum-told-5
     power-of-two-requires
     same-marks-requires
     steady-after-requires
     returns
     returns-2
     returns-3
-    returns-4)
+    returns-4
+    returns-5)
