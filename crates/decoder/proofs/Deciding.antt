@@ -5,15 +5,12 @@ use mathlib.Core.Bool.{true}
 use mathlib.Core.List.{List}
 use native.Mathlib.Omega.{arith}
 use lib.IntN.{ℤ}
-use borrow.Author.Tests.{eqb-true}
-use Rattle.calls.specs.Bounds.{largestCeiling}
 use Rattle.calls.specs.declared.Refusal.{Refusal}
 use Rattle.calls.specs.Numbers.{refusalNumber, firstRefusal}
-use Rattle.calls.specs.NumberLaws.{refused-first, refused-keeps, between-passed}
+use Rattle.calls.specs.NumberLaws.{refused-first, refused-keeps}
 use Rattle.message.specs.MessageLaws.{RuleInRange}
 use Rattle.sweeps.specs.IterationLaws.{WorkspaceValid, valid-start}
 use Rattle.settings.specs.declared.Settings.{Settings}
-use Rattle.settings.specs.Settings.{operandFits}
 use Rattle.settings.specs.SettingsLaws.{Accepted}
 use Rattle.settings.specs.Slices.{Slices, slices, lengthsOf}
 use Rattle.decoder.specs.declared.Outcome.{Outcome}
@@ -36,13 +33,6 @@ use Rattle.decoder.specs.RunLaws.{never-ends, run-from-start, work-from-
 by-refusal : (n : ℕ) (e : Ending) → ((next : ℕ) → firstRefusal n next ≡ n) → refused n ≡ resultBy n e
 by-refusal zero e h = let no : _≡_ {A = ℕ} 1 0 = h 1 in absurd (omega arith)
 by-refusal (suc n) e h = refl
-
-pub operand-le : (C criterion operand : ℕ) → C ≤ largestCeiling → operandFits C criterion operand ≡ true
-    → operand ≤ largestCeiling
-operand-le C zero operand top h = omega (arith, eqb-true operand 0 h)
-operand-le C (suc zero) operand top h = omega (arith, eqb-true operand 0 h)
-operand-le C (suc (suc zero)) operand top h = omega (arith, between-passed 1 C operand h)
-operand-le C (suc (suc (suc n))) operand top h = omega (arith, between-passed 1 8 operand h)
 
 module _ (s : Settings) (mask : List ℕ) (llr : List ℤ) (lent : Slices) where
   pub decoded-refused : (r : Refusal) → callNumber s mask llr lent ≡ refusalNumber r

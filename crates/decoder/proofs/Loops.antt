@@ -1,11 +1,11 @@
--- The loops that write soft outputs, in the terms of the code; and a criterion's number that is none of 0, 1 and 2.
+-- The loops that write soft outputs, in the terms of the code; and a criterion's number that is none of 0 to 3.
 use Prim.Native.Nat.{ℕ, zero, suc, _+_, _*_, _^_, _≤_, _<_}
 use mathlib.Core.Path.{_≡_, refl, ap}
 use mathlib.Core.List.{List}
 use native.Mathlib.Omega.{arith}
 use lib.IntN.{ℤ, pos, natAbs}
 use lib.ListN.{length, getD}
-use Rattle.criteria.specs.declared.Criterion.the-variants.{Steady}
+use Rattle.criteria.specs.declared.Criterion.the-variants.{LeastInformationSize}
 use Rattle.message.specs.declared.MinSum.{MinSum}
 use Rattle.message.specs.Message.{add}
 use Rattle.settings.specs.declared.Settings.{Settings}
@@ -33,9 +33,10 @@ module _ {rule : MinSum} {m : ℕ} {w : List ℤ} (valid : WorkspaceValid rule m
   pub message-small : natAbs (row m w k i) ≤ rule .ceiling
   message-small = valid .within (k * 2 ^ m + i) (row-lt m k i hk hi)
 
-pub steady-of : (criterion : ℕ) (s : Settings) → (criterion ≡ 0 → ⊥) → (criterion ≡ 1 → ⊥) → (criterion ≡ 2 → ⊥)
-    → Steady (s .operand) ≡ criterionBy criterion s
-steady-of zero s a b c = absurd (a refl)
-steady-of (suc zero) s a b c = absurd (b refl)
-steady-of (suc (suc zero)) s a b c = absurd (c refl)
-steady-of (suc (suc (suc n))) s a b c = refl
+pub past-three : (criterion : ℕ) (s : Settings) → (criterion ≡ 0 → ⊥) → (criterion ≡ 1 → ⊥) → (criterion ≡ 2 → ⊥)
+    → (criterion ≡ 3 → ⊥) → LeastInformationSize (s .operand) ≡ criterionBy criterion s
+past-three zero s a b c d = absurd (a refl)
+past-three (suc zero) s a b c d = absurd (b refl)
+past-three (suc (suc zero)) s a b c d = absurd (c refl)
+past-three (suc (suc (suc zero))) s a b c d = absurd (d refl)
+past-three (suc (suc (suc (suc n)))) s a b c d = refl

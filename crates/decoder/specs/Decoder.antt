@@ -15,7 +15,13 @@ use Rattle.message.specs.Message.{add}
 use Rattle.sweeps.specs.Workspace.{L, R}
 use Rattle.sweeps.specs.Iteration.{iterations, start}
 use Rattle.criteria.specs.declared.Criterion.{Criterion}
-use Rattle.criteria.specs.declared.Criterion.the-variants.{Never, GMatrix, LeastSize, Steady}
+use Rattle.criteria.specs.declared.Criterion.the-variants.{
+  Never,
+  GMatrix,
+  LeastSize,
+  Steady,
+  LeastInformationSize,
+}
 use Rattle.criteria.specs.Criteria.{holds}
 use Rattle.criteria.specs.Marks.{markOf}
 use Rattle.settings.specs.declared.Settings.{Settings}
@@ -58,7 +64,8 @@ abbrev pub criterionBy : ℕ → Settings → Criterion
 criterionBy zero s = Never
 criterionBy (suc zero) s = GMatrix
 criterionBy (suc (suc zero)) s = LeastSize (s .operand)
-criterionBy (suc (suc (suc n))) s = Steady (s .operand)
+criterionBy (suc (suc (suc zero))) s = Steady (s .operand)
+criterionBy (suc (suc (suc (suc n)))) s = LeastInformationSize (s .operand)
 
 abbrev pub criterionOf : Settings → Criterion
 criterionOf s = criterionBy (s .criterion) s

@@ -88,7 +88,10 @@ fn criterion_of(settings: Settings) -> Criterion
     if criterion == 2 {
         return Criterion::LeastSize(operand as u16);
     }
-    Criterion::Steady(operand)
+    if criterion == 3 {
+        return Criterion::Steady(operand);
+    }
+    Criterion::LeastInformationSize(operand as u16)
 }
 
 // The soft output of a position by its mask byte: the sum of the messages of both directions, or the ceiling where the

@@ -18,7 +18,14 @@ use Rattle.calls.specs.Signs.{isNegative}
 use Rattle.calls.specs.SignLaws.{size-flipped}
 use Rattle.polar.specs.Mask.{maskAccepted, byKind}
 use Rattle.polar.specs.Code.{informationCount}
-use Rattle.settings.specs.Settings.{largestLimit, operandFits, slicesFit, withinCeiling, decodeNumber}
+use Rattle.settings.specs.Settings.{
+  largestLimit,
+  largestCriterion,
+  operandFits,
+  slicesFit,
+  withinCeiling,
+  decodeNumber,
+}
 use Rattle.scan.specs.Reading.{Reading, found, malformed, bind}
 use Rattle.scan.specs.Lines.{line}
 use Rattle.scan.specs.ScanLaws.{bind-found}
@@ -91,12 +98,13 @@ in-range : (low high : ℕ) (z : ℤ) → inRange low high z ≡ true → unsign
 in-range low high (pos n) e = refl
 in-range low high (negsuc n) e = absurd (true≢false (sym e))
 
-operand-whole : (C : ℕ) (criterion operand : ℤ) → C < outsideRanges → inRange 0 3 criterion ≡ true
+operand-whole : (C : ℕ) (criterion operand : ℤ) → C < outsideRanges → inRange 0 largestCriterion criterion ≡ true
     → operandFits C (unsigned criterion) (unsigned operand) ≡ operandInRange C criterion operand
 operand-whole C (pos zero) operand h e = zero-whole operand
 operand-whole C (pos (suc zero)) operand h e = zero-whole operand
 operand-whole C (pos (suc (suc zero))) operand h e = range-whole 1 C operand h
-operand-whole C (pos (suc (suc (suc n)))) operand h e = range-whole 1 8 operand (lit< tt)
+operand-whole C (pos (suc (suc (suc zero)))) operand h e = range-whole 1 8 operand (lit< tt)
+operand-whole C (pos (suc (suc (suc (suc n))))) operand h e = range-whole 1 C operand h
 operand-whole C (negsuc n) operand h e = absurd (true≢false (sym e))
 
 -- 256 is no 0 and no 1, and neither is -1
@@ -192,7 +200,7 @@ block-whole zs mask llr mask-long llr-long =
     next-test _ _ 1 _ _ _ (range-whole 1 largestCeiling (valueAt zs 1) (lit< tt)) (λ two.
     next-test _ _ 2 _ _ _ (range-whole 1 largestScale (valueAt zs 2) (lit< tt)) (λ three.
     next-test _ _ 3 _ _ _ (range-whole 1 largestLimit (valueAt zs 3) (lit< tt)) (λ four.
-    next-test _ _ 4 _ _ _ (up-to-whole 3 (valueAt zs 4) (lit< tt)) (λ five.
+    next-test _ _ 4 _ _ _ (up-to-whole largestCriterion (valueAt zs 4) (lit< tt)) (λ five.
     let m : unsigned (valueAt zs 0) ≡ natAbs (valueAt zs 0) = in-range 1 largestM (valueAt zs 0) one in
     let m-range : (1 ≤ natAbs (valueAt zs 0)) × (natAbs (valueAt zs 0) ≤ largestM) =
     between-passed 1 largestM (natAbs (valueAt zs 0))

@@ -9,7 +9,7 @@ use lib.IntN.{ℤ, pos, negsuc, natAbs}
 use lib.ListN.{length, getD}
 use Rattle.calls.specs.Bounds.{largestM, largestCeiling, largestScale}
 use Rattle.calls.specs.Numbers.{check, between}
-use Rattle.settings.specs.Settings.{largestLimit}
+use Rattle.settings.specs.Settings.{largestLimit, largestCriterion}
 use Rattle.scan.specs.Reading.{Reading, found, malformed, bind}
 use Rattle.scan.specs.Lines.{line}
 use Rattle.report_input.specs.Input.{longestText, valueAt, settingValues}
@@ -57,7 +57,8 @@ abbrev pub operandInRange : ℕ → ℤ → ℤ → Bool
 operandInRange C (pos zero) operand = inRange 0 0 operand
 operandInRange C (pos (suc zero)) operand = inRange 0 0 operand
 operandInRange C (pos (suc (suc zero))) operand = inRange 1 C operand
-operandInRange C (pos (suc (suc (suc n)))) operand = inRange 1 8 operand
+operandInRange C (pos (suc (suc (suc zero)))) operand = inRange 1 8 operand
+operandInRange C (pos (suc (suc (suc (suc n))))) operand = inRange 1 C operand
 operandInRange C (negsuc n) operand = false
 
 -- ---- the numbers
@@ -69,7 +70,7 @@ wholeNumber zs mask llr =
     (check (inRange 1 largestCeiling (valueAt zs 1)) 2
     (check (inRange 1 largestScale (valueAt zs 2)) 3
     (check (inRange 1 largestLimit (valueAt zs 3)) 4
-    (check (inRange 0 3 (valueAt zs 4)) 5
+    (check (inRange 0 largestCriterion (valueAt zs 4)) 5
     (check (operandInRange (natAbs (valueAt zs 1)) (valueAt zs 4) (valueAt zs 5)) 6
     (check (allOf (2 ^ natAbs (valueAt zs 0)) (inRange 0 1) mask) 8
     (check (anyOf (2 ^ natAbs (valueAt zs 0)) (inRange 0 0) mask) 9

@@ -6,7 +6,7 @@ use mathlib.Core.Bool.{Bool, true, false, true≢false}
 use mathlib.Core.List.{List, [], _∷_, _++_}
 use native.Mathlib.Nat.{suc-add}
 use native.Mathlib.Omega.{arith}
-use borrow.Author.Tests.{leb-true, eqb-true, le-leb, lt-leb}
+use borrow.Author.Tests.{leb-true, le-leb, lt-leb}
 use lib.IntN.{ℤ, pos, natAbs}
 use lib.ListN.{length, getD, take, drop, length-append}
 use lib.Pow.{pow-mono}
@@ -16,11 +16,10 @@ use Rattle.calls.specs.Bounds.{mostPositions, largestCeiling}
 use Rattle.calls.specs.EveryLaws.{every-at}
 use Rattle.calls.specs.LentMemory.{writtenOver, unlessRefused}
 use Rattle.calls.specs.Numbers.{refusalNumber, check, firstRefusal}
-use Rattle.calls.specs.NumberLaws.{between-passed, refused-first, refused-keeps}
+use Rattle.calls.specs.NumberLaws.{refused-first, refused-keeps}
 use Rattle.polar.specs.Mask.{isMaskByte}
 use Rattle.settings.specs.declared.Settings.{Settings}
-use Rattle.settings.specs.Settings.{operandFits}
-use Rattle.settings.specs.SettingsLaws.{Accepted, accepted}
+use Rattle.settings.specs.SettingsLaws.{Accepted, accepted, operand-le}
 use Rattle.format.specs.Decimal.{digits, decimal, shown, line}
 use Rattle.format.specs.DecimalLaws.{
   length-last,
@@ -51,14 +50,6 @@ use Rattle.report_writer.specs.declared.Written.the-variants.{Length, Re
 
 -- ---- what is written of an accepted block
 
--- an operand is at most the ceiling, or 8, and so at most the largest ceiling
-operand-le : (C criterion operand : ℕ) → C ≤ largestCeiling → operandFits C criterion operand ≡ true
-    → operand ≤ largestCeiling
-operand-le C zero operand h e = omega (arith, eqb-true operand 0 e)
-operand-le C (suc zero) operand h e = omega (arith, eqb-true operand 0 e)
-operand-le C (suc (suc zero)) operand h e = omega (arith, between-passed 1 C operand e .1)
-operand-le C (suc (suc (suc n))) operand h e = omega (arith, between-passed 1 8 operand e .1)
-
 -- its settings and its values
 module _ (s : Settings) (b : Block) (none : blockNumber s b ≡ 0) where
   pub block-accepted : Accepted s (b .mask) (b .llr) largestLengths
@@ -68,9 +59,7 @@ module _ (s : Settings) (b : Block) (none : blockNumber s b ≡ 0) where
   few-positions = pow-mono (block-accepted .settings .m-le)
 
   operand-small : s .operand ≤ largestCeiling
-  operand-small =
-      let a = block-accepted .settings in
-      operand-le (s .ceiling) (s .criterion) (s .operand) (a .ceiling-le) (a .operand)
+  operand-small = operand-le (block-accepted .settings)
 
   module _ (p : ℕ) (h : p < 2 ^ s .m) where
     pub mask-small : getD (b .mask) p 0 ≤ 1

@@ -60,8 +60,8 @@ scale = refl
 pub limit : map (λ T. of-settings (set 1 31 16 T 1 0)) (0 ∷ 1 ∷ 200 ∷ 201 ∷ []) ≡ 4 ∷ 0 ∷ 0 ∷ 4 ∷ []
 limit = refl
 
--- 5, with an operand that fits criterion 3
-pub criterion : map (λ c. of-operand c 1) (3 ∷ 4 ∷ []) ≡ 0 ∷ 5 ∷ []
+-- 5, with an operand that fits criterion 4
+pub criterion : map (λ c. of-operand c 1) (4 ∷ 5 ∷ []) ≡ 0 ∷ 5 ∷ []
 criterion = refl
 
 -- 6
@@ -76,6 +76,9 @@ operand-least-size = refl
 
 pub operand-steady-marks : map (of-operand 3) (0 ∷ 1 ∷ 8 ∷ 9 ∷ []) ≡ 6 ∷ 0 ∷ 0 ∷ 6 ∷ []
 operand-steady-marks = refl
+
+pub operand-least-information-size : map (of-operand 4) (0 ∷ 1 ∷ 31 ∷ 32 ∷ []) ≡ 6 ∷ 0 ∷ 0 ∷ 6 ∷ []
+operand-least-information-size = refl
 
 -- 7: each slice one short
 pub short-slices : map of-lengths
@@ -112,8 +115,8 @@ behind = refl
 
 -- several at once: the lowest. Each line mends what the line before was refused for
 pub lowest : map of-settings (
-    set 11 0 0 0 4 9 ∷ set 1 0 0 0 4 9 ∷ set 1 31 0 0 4 9 ∷ set 1 31 16 0 4 9 ∷ set 1 31 16 10 4 9
-    ∷ set 1 31 16 10 3 9 ∷ []
+    set 11 0 0 0 5 32 ∷ set 1 0 0 0 5 32 ∷ set 1 31 0 0 5 32 ∷ set 1 31 16 0 5 32 ∷ set 1 31 16 10 5 32
+    ∷ set 1 31 16 10 4 32 ∷ []
     ) ≡ 1 ∷ 2 ∷ 3 ∷ 4 ∷ 5 ∷ 6 ∷ []
 lowest = refl
 

@@ -17,16 +17,21 @@ use Rattle.settings.specs.declared.Lengths.{Lengths}
 abbrev pub settingsList : Settings → List ℕ
 settingsList s = s .m ∷ s .ceiling ∷ s .scale ∷ s .limit ∷ s .criterion ∷ s .operand ∷ []
 
--- 6. The operand of criteria 0 and 1 is 0, of 2 it is 1 to C, of 3 it is 1 to 8
+-- 6. The operand of criteria 0 and 1 is 0, of 2 it is 1 to C, of 3 it is 1 to 8, of 4 it is 1 to C (2026-04)
 abbrev pub operandFits : ℕ → ℕ → ℕ → Bool
 operandFits C zero operand = eqb operand 0
 operandFits C (suc zero) operand = eqb operand 0
 operandFits C (suc (suc zero)) operand = between 1 C operand
-operandFits C (suc (suc (suc n))) operand = between 1 8 operand
+operandFits C (suc (suc (suc zero))) operand = between 1 8 operand
+operandFits C (suc (suc (suc (suc n)))) operand = between 1 C operand
 
 -- the largest limit T
 abbrev pub largestLimit : ℕ
 largestLimit = 200
+
+-- the last criterion (2026-04)
+abbrev pub largestCriterion : ℕ
+largestCriterion = 4
 
 -- 1 to 6
 abbrev pub settingsNumber : Settings → ℕ
@@ -35,7 +40,7 @@ settingsNumber s =
     (check (between 1 largestCeiling (s .ceiling)) 2
     (check (between 1 largestScale (s .scale)) 3
     (check (between 1 largestLimit (s .limit)) 4
-    (check (leb (s .criterion) 3) 5
+    (check (leb (s .criterion) largestCriterion) 5
     (check (operandFits (s .ceiling) (s .criterion) (s .operand)) 6 0)))))
 
 -- 7. Mask, LLRs and the four outputs need N elements, the workspace 2 (m + 1) N

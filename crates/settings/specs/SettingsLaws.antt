@@ -1,13 +1,14 @@
 -- Laws of the decoder's tests: what an accepted call tells of what it was handed, and that
 -- the tests read no sign of an LLR.
-use Prim.Native.Nat.{ℕ, _+_, _*_, _^_, _≤_, _<_}
+use Prim.Native.Nat.{ℕ, zero, suc, _+_, _*_, _^_, _≤_, _<_}
 use mathlib.Core.Path.{_≡_, ap, _∙_}
 use mathlib.Core.Bool.{Bool, true}
 use mathlib.Core.List.{List}
 use lib.Dec.{leb}
 use lib.IntN.{ℤ, pos, natAbs}
 use lib.ListN.{length, getD}
-use borrow.Author.Tests.{leb-true}
+use native.Mathlib.Omega.{arith}
+use borrow.Author.Tests.{leb-true, eqb-true}
 use Rattle.calls.specs.Bounds.{largestM, largestCeiling, largestScale, workspaceLength}
 use Rattle.calls.specs.EveryLaws.{every-at, every-same}
 use Rattle.calls.specs.NumberLaws.{check-passed, first-refusal-passed, and-passed, between-passed}
@@ -20,6 +21,7 @@ use Rattle.settings.specs.declared.Lengths.{Lengths}
 use Rattle.settings.specs.Settings.{
   operandFits,
   largestLimit,
+  largestCriterion,
   settingsNumber,
   slicesFit,
   withinCeiling,
@@ -42,7 +44,7 @@ pub record SettingsAccepted (s : Settings) : Type 0 where
   pub scale-le : s .scale ≤ largestScale
   pub limit-some : 1 ≤ s .limit
   pub limit-le : s .limit ≤ largestLimit
-  pub criterion-le : s .criterion ≤ 3
+  pub criterion-le : s .criterion ≤ largestCriterion
   pub operand : operandFits (s .ceiling) (s .criterion) (s .operand) ≡ true
 
 pub settings-accepted : (s : Settings) → settingsNumber s ≡ 0 → SettingsAccepted s
@@ -66,7 +68,7 @@ settings-accepted s h =
       scale-le = scale .1;
       limit-some = limit .0;
       limit-le = limit .1;
-      criterion-le = leb-true (s .criterion) 3 (five .0);
+      criterion-le = leb-true (s .criterion) largestCriterion (five .0);
       operand = six .0;
     }
 
@@ -121,8 +123,20 @@ accepted s mask llr lengths h =
       within = within-at (2 ^ s .m) (s .ceiling) llr (ten .0);
     }
 
--- the operand of criterion 2, a least size, and of criterion 3, a count of iterations
+-- the operand of criteria 2 and 4, a least size, and of criterion 3, a count of iterations; an operand is at most the
+-- ceiling, or 8, and so at most the largest ceiling
+fits-le : (C criterion operand : ℕ) → C ≤ largestCeiling → operandFits C criterion operand ≡ true
+    → operand ≤ largestCeiling
+fits-le C zero operand h e = omega (arith, eqb-true operand 0 e)
+fits-le C (suc zero) operand h e = omega (arith, eqb-true operand 0 e)
+fits-le C (suc (suc zero)) operand h e = omega (arith, between-passed 1 C operand e .1)
+fits-le C (suc (suc (suc zero))) operand h e = omega (arith, between-passed 1 8 operand e .1)
+fits-le C (suc (suc (suc (suc n)))) operand h e = omega (arith, between-passed 1 C operand e .1)
+
 module _ {s : Settings} (a : SettingsAccepted s) where
+  pub operand-le : s .operand ≤ largestCeiling
+  operand-le = fits-le (s .ceiling) (s .criterion) (s .operand) (a .ceiling-le) (a .operand)
+
   pub operand-least : s .criterion ≡ 2 → (1 ≤ s .operand) × (s .operand ≤ s .ceiling)
   operand-least e = between-passed 1 (s .ceiling) (s .operand) (rw e at (a .operand))
 

@@ -18,6 +18,9 @@ use calls::Refusal;
 // The largest limit T.
 const LARGEST_LIMIT: u32 = 200;
 
+// The criteria are numbered from 0 to this one.
+const LARGEST_CRITERION: u32 = 4;
+
 // The settings travel as one struct by value, so that a later setting joins them here.
 pub struct Settings {
     pub m: u32,
@@ -52,7 +55,8 @@ fn operand_fits(ceiling: u32, criterion: u32, operand: u32) -> bool
         0 => operand == 0,
         1 => operand == 0,
         2 => between(1, ceiling, operand),
-        _ => between(1, 8, operand),
+        3 => between(1, 8, operand),
+        _ => between(1, ceiling, operand),
     }
 }
 
@@ -78,7 +82,7 @@ fn settings_refusal(settings: Settings) -> Answer
     if !between(1, LARGEST_LIMIT, limit) {
         return Answer::Refused(Refusal::Limit);
     }
-    if 3 < criterion {
+    if LARGEST_CRITERION < criterion {
         return Answer::Refused(Refusal::Criterion);
     }
     if !operand_fits(ceiling, criterion, operand) {

@@ -1,6 +1,6 @@
 -- `criterion_of` meets its contract.
 use borrow.Author.Needs.{needs}
-use Rattle.decoder.proofs.Loops.{steady-of}
+use Rattle.decoder.proofs.Loops.{past-three}
 use Rattle.decoder.proofs.criterion_of.Statement.{statement}
 use Rattle.decoder.proofs.criterion_of.Tie as tie
 
@@ -17,9 +17,17 @@ returns-3 : tie.Need-returns-3
 returns-3 c = rw (c .if3 .taken)
 
 returns-4 : tie.Need-returns-4
-returns-4 c =
-    steady-of _ (c .before .before .before .args .settings) (c .before .before .if1 .left) (c .before .if2 .left)
-    (c .if3 .left)
+returns-4 c = rw (c .if4 .taken)
+
+cast-t6 : tie.Need-cast-t6
+cast-t6 c = search needs
+
+returns-5 : tie.Need-returns-5
+returns-5 c =
+    let three = c .before in
+    let two = three .before in
+    let one = two .before in
+    past-three _ (one .before .args .settings) (one .if1 .left) (two .if2 .left) (three .if3 .left) (c .if4 .left)
 
 pub criterion-of-spec : {M : Type 1} → statement M
-criterion-of-spec = tie.close (tie.spec returns returns-2 cast-t5 returns-3 returns-4)
+criterion-of-spec = tie.close (tie.spec returns returns-2 cast-t5 returns-3 returns-4 cast-t6 returns-5)

@@ -7,13 +7,13 @@ use lib.IntN.{ℤ}
 use Rattle.calls.specs.Numbers.{numberOf}
 use Rattle.message.specs.declared.MinSum.{MinSum}
 use Rattle.settings.specs.declared.Settings.{Settings}
-use Rattle.settings.specs.SettingsLaws.{Accepted, accepted}
+use Rattle.settings.specs.SettingsLaws.{Accepted, accepted, operand-le}
 use Rattle.settings.specs.Slices.{Slices, slices, lengthsOf}
 use Rattle.settings.specs.SlicesLaws.{OutputsFit, outputs-fit, fit-with}
 use Rattle.sweeps.specs.Iteration as iteration
 use Rattle.sweeps.specs.IterationLaws.{WorkspaceValid}
 use Rattle.decoder.specs.Decoder.{ruleOf, callNumber, startOf}
-use Rattle.decoder.proofs.Deciding.{operand-le, decoded-refused, begun-valid, decoded-run, decoded-limit}
+use Rattle.decoder.proofs.Deciding.{decoded-refused, begun-valid, decoded-run, decoded-limit}
 use borrow.Author.Needs.{needs}
 use Rattle.decoder.proofs.decode.Statement.{statement}
 use Rattle.decoder.proofs.decode.Tie as tie
@@ -136,11 +136,10 @@ returns c =
 run-requires : tie.Need-run-requires
 run-requires c κs =
     let b = left c .before .before in
-    let t = tests (told b) .settings in
-    let s = settings (given b) in (
+    let t = tests (told b) .settings in (
       valid b,
       (
-        (operand-le (s .ceiling) (s .criterion) (s .operand) (t .ceiling-le) (t .operand), t .limit-some, t .limit-le),
+        (operand-le t, t .limit-some, t .limit-le),
         (tests (told b) .slices .mask-long, fits b),
       ),
     )

@@ -6,7 +6,7 @@ use borrow.Author.Tests.{le-leb, lt-leb, not-true, not-false}
 use lib.Dec.{leb}
 use Rattle.calls.specs.Bounds.{largestM, largestCeiling, largestScale}
 use Rattle.calls.specs.Numbers.{between}
-use Rattle.settings.specs.Settings.{largestLimit}
+use Rattle.settings.specs.Settings.{largestLimit, largestCriterion}
 use Rattle.settings.proofs.settings_refusal.Statement.{statement}
 use Rattle.settings.proofs.settings_refusal.Tie as tie
 
@@ -36,8 +36,8 @@ scale c = sym (c .before .between3 .ensures) ∙ not-false _ (c .if3 .left)
 limit : (c : tie.Else4) → between 1 largestLimit (past4 c .args .settings .limit) ≡ true
 limit c = sym (c .before .between4 .ensures) ∙ not-false _ (c .if4 .left)
 
-criterion : (c : tie.Else5) → leb (past4 (c .before) .args .settings .criterion) 3 ≡ true
-criterion c = le-leb _ 3 (c .if5 .left)
+criterion : (c : tie.Else5) → leb (past4 (c .before) .args .settings .criterion) largestCriterion ≡ true
+criterion c = le-leb _ largestCriterion (c .if5 .left)
 
 -- ---- the answers
 between-requires : tie.Need-between-requires
@@ -79,7 +79,7 @@ returns-5 c =
     let e4 = c .before in
     let e3 = e4 .before .before in
     let e2 = e3 .before .before in
-    simp (block (e2 .before .before), ceiling e2, scale e3, limit e4, lt-leb _ 3 (c .if5 .taken))
+    simp (block (e2 .before .before), ceiling e2, scale e3, limit e4, lt-leb _ largestCriterion (c .if5 .taken))
 
 operand-fits-requires : tie.Need-operand-fits-requires
 operand-fits-requires c κs = search needs
