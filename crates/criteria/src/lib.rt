@@ -102,13 +102,13 @@ fn least_information_size(operand: u16, mask: &[u8], soft: &[i16], n: usize) -> 
     ensures { λ r. ⌜ r
         ≡ leastInformationSize n operand (now (mask .entry)) (λ i. getD (now (soft .entry)) i (pos 0)) ⌝ }
 {
-    let mut least = 65535;
-    let mut i = 0;
-    while i < n {
-        least = smaller(least, information_size(mask[i], soft[i]));
-        i += 1;
+    let mut smallest = 65535;
+    let mut position = 0;
+    while position < n {
+        smallest = smaller(smallest, information_size(mask[position], soft[position]));
+        position += 1;
     }
-    operand <= least
+    operand <= smallest
 }
 
 // Whether a position allows criterion 3: it is frozen, or its mark is that of the iteration before.

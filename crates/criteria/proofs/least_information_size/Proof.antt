@@ -18,19 +18,19 @@ use Rattle.criteria.proofs.least_information_size.Statement.{statement}
 use Rattle.criteria.proofs.least_information_size.Tie as tie
 
 abbrev Inv-loop : tie.InvT-loop
-Inv-loop operand mask soft n least₀ i₀ least i =
-    (i ≤ n) × (leb operand least ≡ leastInformationSize i operand mask (λ j. getD soft j (pos 0)))
+Inv-loop operand mask soft n smallest₀ position₀ smallest position =
+    (position ≤ n) × (leb operand smallest ≡ leastInformationSize position operand mask (λ j. getD soft j (pos 0)))
 
 abbrev μ-loop : tie.MeasureT-loop
-μ-loop operand mask soft n least₀ i₀ least i = n - i
+μ-loop operand mask soft n smallest₀ position₀ smallest position = n - position
 
 -- the soft value that a turn reads
 module _ (c : tie.In-loop Inv-loop μ-loop) where
   abbrev value : ℤ
-  value = getD (c .before .before .before .args .soft .now) (c .before .loop .i) (pos 0)
+  value = getD (c .before .before .before .args .soft .now) (c .before .loop .position) (pos 0)
 
   small : natAbs value ≤ largestCeiling
-  small = c .before .before .before .pre .1 .at (c .before .loop .i) (c .loop-test .taken)
+  small = c .before .before .before .pre .1 .at (c .before .loop .position) (c .loop-test .taken)
 
 loop-holds : tie.Need-loop-holds Inv-loop μ-loop
 loop-holds c = (zero-le, le-leb (c .before .args .operand) 65535 (omega arith))
@@ -51,8 +51,8 @@ information-size-requires c κs =
 smaller-requires : tie.Need-smaller-requires Inv-loop μ-loop
 smaller-requires c κs = search needs
 
-add-i : tie.Need-add-i Inv-loop μ-loop
-add-i c = omega arith
+add-position : tie.Need-add-position Inv-loop μ-loop
+add-position c = omega arith
 
 loop-less : tie.Need-loop-less Inv-loop μ-loop
 loop-less c = omega arith
@@ -61,12 +61,12 @@ loop-again : tie.Need-loop-again Inv-loop μ-loop
 loop-again c =
     let turn = c .before .before .before .before in
     let s = turn .before .before .before in
-    let i = turn .before .loop .i in
+    let i = turn .before .loop .position in
     let operand = s .args .operand in
     let mask = s .args .mask .now in
     let size = c .before .information-size .ensures
     ∙ ap (λ (z : ℤ). byKind (getD mask i 0) (natAbs z) (λ bit. 65535)) (small-kept (value turn) (small turn)) in
-    let next = least-next operand i (turn .before .loop .least) _
+    let next = least-next operand i (turn .before .loop .smallest) _
     (λ j. byKind (getD mask j 0) (leb operand (natAbs (getD (s .args .soft .now) j (pos 0)))) (λ bit. true))
     (turn .before .loop .inv .1)
     (ap (leb operand) size ∙ size-seen operand (getD mask i 0) (natAbs (value turn)) (omega arith)) in
@@ -74,7 +74,7 @@ loop-again c =
 
 returns : tie.Need-returns Inv-loop μ-loop
 returns c =
-    let e : c .before .loop .i ≡ c .before .before .before .args .n = omega arith in rw e at (c .before .loop .inv .1)
+    let e : c .before .loop .position ≡ c .before .before .before .args .n = omega arith in rw e at (c .before .loop .inv .1)
 
 pub least-information-size-spec : {M : Type 1} → statement M
 least-information-size-spec =
@@ -88,7 +88,7 @@ least-information-size-spec =
     shared-slice-copy-out-information-size
     information-size-requires
     smaller-requires
-    add-i
+    add-position
     loop-less
     loop-again
     returns)

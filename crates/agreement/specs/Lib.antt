@@ -1,0 +1,3 @@
+pub mod Agree
+pub mod LeastSizes
+pub mod Agreement

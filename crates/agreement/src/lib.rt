@@ -1,0 +1,3 @@
+// The theorem that criteria 2 and 4 give the same answers: of the decoder, of a tallied call, of the report and of the
+// C functions.
+// It sees the definitions that their contracts cite, and their laws. It has no function: all of it is in specs/.
