@@ -93,7 +93,11 @@ fn information_size(kind: u8, value: i16) -> u16
     ensures { λ r. ⌜ r ≡ byKind kind (natAbs value) (λ bit. 65535) ⌝ }
 {
     let size = calls::size(value);
-    if polar::is_information(kind) { size } else { 65535 }
+    if polar::is_information(kind) {
+        size
+    } else {
+        65535
+    }
 }
 
 // Criterion 4 of the first n soft values.
