@@ -152,7 +152,7 @@ pub fn noisy(m: usize, db: f64, random: &mut Random) -> Block {
         m,
         ceiling,
         scale: 15,
-        mask: noise::mask(m, 2.0),
+        mask: noise::mask(m, 1 << (m - 1), 2.0),
         llr: noise::llrs(1 << m, db, 16.0, ceiling, random),
     }
 }

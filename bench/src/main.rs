@@ -1,6 +1,6 @@
 //! The proved decoder against others, side by side in one run: each round runs every decoder once, and a figure is
 //! the best or the median of all rounds.
-use bench::noise::Random;
+use bench::noise::{self, Random};
 use bench::{baseline, blocks, lent, noisy, plain, proved, Block, Lent};
 use std::time::Instant;
 
@@ -141,9 +141,36 @@ fn block_table(random: &mut Random) {
     }
 }
 
+/// Criteria 2 and 4 with an operand that is never reached, so that both are tried at every iteration up to the limit.
+fn criteria_table(random: &mut Random) {
+    println!(
+        "\nOne iteration of the proved decoder at m = 10 under criteria 0, 2 and 4 (ns, best of 100 rounds of 200 \
+         iterations)"
+    );
+    for information in [512, 32] {
+        let mut block = noisy(10, 2.5, random);
+        block.mask = noise::mask(10, information, 2.0);
+        block.llr.fill(0);
+        let mut to = lent(10);
+        let mut best = [f64::MAX; 3];
+        for _ in 0..100 {
+            for (best, criterion) in best.iter_mut().zip([(0, 0), (2, 1), (4, 1)]) {
+                let begin = Instant::now();
+                assert_eq!(proved(&block, criterion, 200, &mut to), 200);
+                *best = best.min(begin.elapsed().as_nanos() as f64 / 200.0);
+            }
+        }
+        println!(
+            "K = {information:3} {:9.0} {:9.0} {:9.0}",
+            best[0], best[1], best[2]
+        );
+    }
+}
+
 fn main() {
     let mut random = Random(2026);
     iteration_table(&mut random);
     growth_table(&mut random);
     block_table(&mut random);
+    criteria_table(&mut random);
 }

@@ -47,10 +47,10 @@ fn mean_of(doubtful: f64) -> f64 {
     low
 }
 
-/// A mask of rate one half, by the Gaussian approximation at a design signal-to-noise ratio: the positions with the
-/// largest means carry the message. The decoder's graph has distance N/2 at the message side, so the usual order is
-/// taken with the digits of the position reversed.
-pub fn mask(m: usize, design_db: f64) -> Vec<u8> {
+/// A mask with `information` positions that carry the message, by the Gaussian approximation at a design
+/// signal-to-noise ratio: those with the largest means. The decoder's graph has distance N/2 at the message side, so
+/// the usual order is taken with the digits of the position reversed.
+pub fn mask(m: usize, information: usize, design_db: f64) -> Vec<u8> {
     let n = 1usize << m;
     let mut means = vec![2.0 * 10f64.powf(design_db / 10.0)];
     for _ in 0..m {
@@ -62,7 +62,7 @@ pub fn mask(m: usize, design_db: f64) -> Vec<u8> {
     let mut order: Vec<usize> = (0..n).collect();
     order.sort_by(|a, b| means[*b].total_cmp(&means[*a]));
     let mut mask = vec![1; n];
-    for position in &order[..n / 2] {
+    for position in &order[..information] {
         mask[position.reverse_bits() >> (usize::BITS as usize - m)] = 0;
     }
     mask

@@ -54,7 +54,7 @@ fn main() {
     let blocks = std::env::args()
         .nth(1)
         .map_or(4000, |count| count.parse().expect("a number of blocks"));
-    let mask = noise::mask(10, 2.0);
+    let mask = noise::mask(10, 512, 2.0);
     let natural: Vec<u8> = (0..1024u16)
         .map(|i| mask[usize::from(i.reverse_bits() >> 6)])
         .collect();

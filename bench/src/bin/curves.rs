@@ -4,7 +4,7 @@ use bench::noise::{self, Random};
 use bench::{lent, proved, Block};
 
 /// The criteria with their operands.
-const CRITERIA: [(u32, u32); 4] = [(0, 0), (1, 0), (2, 32), (3, 2)];
+const CRITERIA: [(u32, u32); 5] = [(0, 0), (1, 0), (2, 32), (3, 2), (4, 32)];
 
 struct Count {
     errors: u32,
@@ -12,9 +12,9 @@ struct Count {
 }
 
 /// One point of every curve: blocks until criterion 1 has 100 frame errors, at most `most`.
-fn point(db: f64, most: u32, mask: &[u8], random: &mut Random) -> (u32, [Count; 4]) {
+fn point(db: f64, most: u32, mask: &[u8], random: &mut Random) -> (u32, [Count; 5]) {
     let mut to = lent(10);
-    let mut counts = [0; 4].map(|_| Count {
+    let mut counts = [0; 5].map(|_| Count {
         errors: 0,
         iterations: 0,
     });
@@ -41,7 +41,7 @@ fn main() {
     let most = std::env::args()
         .nth(1)
         .map_or(20_000, |count| count.parse().expect("a number of blocks"));
-    let mask = noise::mask(10, 2.0);
+    let mask = noise::mask(10, 512, 2.0);
     let mut random = Random(2026);
     println!("db,criterion,operand,blocks,frame_errors,iterations");
     for step in 0..=10 {
