@@ -31,12 +31,12 @@ pub record SameDecoding (s s′ : Settings) (mask : List ℕ) (llr : List ℤ) (
 
 -- two lists of settings, as C hands them in, and two texts, that differ in the criterion alone: 4 in the first and 2 in
 -- the second. Of a text `rest` is what follows its first three lines
-pub record ListsDiffer (s : Settings) (first second : List ℕ) : Type 0 where
-  pub four : settingsIn first ≡ under 4 s
-  pub two : settingsIn second ≡ under 2 s
-  pub long : length first ≡ length second
+pub record ListsDiffer (s : Settings) (list list′ : List ℕ) : Type 0 where
+  pub four : settingsIn list ≡ under 4 s
+  pub two : settingsIn list′ ≡ under 2 s
+  pub long : length list ≡ length list′
 
-pub record TextsDiffer (s : Settings) (rest first second : List ℕ) : Type 0 where
-  pub four : head first ≡ found (under 4 s) rest
-  pub two : head second ≡ found (under 2 s) rest
-  pub long : length first ≡ length second
+pub record TextsDiffer (s : Settings) (rest text text′ : List ℕ) : Type 0 where
+  pub four : head text ≡ found (under 4 s) rest
+  pub two : head text′ ≡ found (under 2 s) rest
+  pub long : length text ≡ length text′
