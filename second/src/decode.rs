@@ -73,7 +73,7 @@ impl Settings {
         require((1..=200).contains(&self.limit), Refusal::Limit)?;
         let operands = match self.criterion {
             0 | 1 => 0..=0,
-            2 => 1..=self.ceiling,
+            2 | 4 => 1..=self.ceiling,
             3 => 1..=8,
             _ => return Err(Refusal::Criterion),
         };

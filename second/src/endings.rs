@@ -57,6 +57,7 @@ pub fn holds(criterion: i64, operand: i64, information: &[usize], history: &[Out
         1 => coded_agree(now),
         2 => now.soft.iter().all(|v| v.abs() >= operand),
         3 => steady(operand as usize, information, history),
+        4 => information.iter().all(|&i| now.soft[i].abs() >= operand),
         _ => false,
     }
 }

@@ -11,7 +11,7 @@ pub enum Refusal {
     Scale = 3,
     /// T outside 1..200
     Limit = 4,
-    /// criterion outside 0..3
+    /// criterion outside 0..4
     Criterion = 5,
     /// operand outside its criterion's range
     Operand = 6,

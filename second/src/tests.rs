@@ -17,6 +17,7 @@ const P1_MASK: &[u8] = &[1, 0];
 const P1_LLR: &[i16] = &[5, -3];
 
 /// What a run wrote.
+#[derive(Debug, PartialEq)]
 struct Run {
     answer: Result<Ending, Refusal>,
     soft: Vec<i16>,
@@ -109,13 +110,15 @@ fn p5() {
 
 #[test]
 fn p6() {
-    let with = |operand| Settings {
-        criterion: 2,
-        operand,
-        ..USUAL
-    };
-    assert_eq!(run(with(2), P1_MASK, P1_LLR).answer, ended(1, 1));
-    assert_eq!(run(with(3), P1_MASK, P1_LLR).answer, ended(10, 2));
+    for criterion in [2, 4] {
+        let with = |operand| Settings {
+            criterion,
+            operand,
+            ..USUAL
+        };
+        assert_eq!(run(with(2), P1_MASK, P1_LLR).answer, ended(1, 1));
+        assert_eq!(run(with(3), P1_MASK, P1_LLR).answer, ended(10, 2));
+    }
 }
 
 #[test]
@@ -239,6 +242,88 @@ fn criterion_3_looks_at_information_positions() {
         };
         let run = run(settings, LAST_OF_FOUR, &[20, -10, 20, -10]);
         assert_eq!(run.answer, ended(iterations, 1));
+    }
+}
+
+#[test]
+fn criterion_4_looks_at_information_positions() {
+    // No decoder leaves such outputs: a frozen position has the ceiling.
+    let outputs = endings::Outputs {
+        soft: vec![3, -8, 0, 7],
+        mark: vec![0, 1, 2, 0],
+        coded_soft: vec![0; 4],
+        coded_mark: vec![2; 4],
+    };
+    let holds = |criterion, operand, information: &[usize]| {
+        endings::holds(criterion, operand, information, &[outputs.clone()])
+    };
+    assert!(holds(4, 7, &[1, 3]));
+    assert!(!holds(4, 8, &[1, 3]));
+    assert!(holds(4, 8, &[1]));
+    assert!(!holds(4, 9, &[1]));
+    assert!(holds(4, 3, &[0, 1, 3]));
+    assert!(!holds(4, 4, &[0, 1, 3]));
+    assert!(!holds(4, 1, &[0, 1, 2, 3]));
+    assert!(!holds(2, 1, &[1, 3]));
+}
+
+/// Every list of so many values, each from `low` to `high`.
+fn lists(len: usize, low: i16, high: i16) -> Vec<Vec<i16>> {
+    let longer = |lists: Vec<Vec<i16>>, _| {
+        let with = |value| lists.iter().map(move |list| [&list[..], &[value]].concat());
+        (low..=high).flat_map(with).collect()
+    };
+    (0..len).fold(vec![vec![]], longer)
+}
+
+#[test]
+fn criteria_2_and_4_agree_on_small_blocks() {
+    for (m, ceiling) in [(1, 5), (2, 2)] {
+        // Among them LLRs above the ceiling, and the mask without information.
+        let llrs = lists(1 << m, -ceiling, ceiling + 1);
+        for mask in lists(1 << m, 0, 1) {
+            let mask: Vec<u8> = mask.iter().map(|&v| v as u8).collect();
+            let settings = Settings {
+                m,
+                ceiling: i64::from(ceiling),
+                ..USUAL
+            };
+            llrs.iter()
+                .for_each(|llr| criteria_2_and_4_agree(settings, &mask, llr));
+        }
+    }
+}
+
+/// With every operand, and one on either side that is refused.
+fn criteria_2_and_4_agree(settings: Settings, mask: &[u8], llr: &[i16]) {
+    for operand in 0..=settings.ceiling + 1 {
+        let with = |criterion| Settings {
+            criterion,
+            operand,
+            ..settings
+        };
+        assert_eq!(run(with(2), mask, llr), run(with(4), mask, llr));
+    }
+}
+
+#[test]
+fn bounds_of_criterion_and_operand() {
+    let answer = |criterion, operand| {
+        let settings = Settings {
+            criterion,
+            operand,
+            ..USUAL
+        };
+        run(settings, P1_MASK, P1_LLR).answer
+    };
+    for criterion in [2, 4] {
+        assert_eq!(answer(criterion, 1), ended(1, 1));
+        assert_eq!(answer(criterion, 31), ended(10, 2));
+        assert_eq!(answer(criterion, 0), Err(Refusal::Operand));
+        assert_eq!(answer(criterion, 32), Err(Refusal::Operand));
+    }
+    for operand in [0, 1, 32] {
+        assert_eq!(answer(5, operand), Err(Refusal::Criterion));
     }
 }
 

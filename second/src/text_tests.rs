@@ -36,6 +36,23 @@ fn text_refusals() {
 }
 
 #[test]
+fn criteria_2_and_4_have_one_report() {
+    let under = |values: &str| report_of(&WORKED.replacen("1 0\n", &format!("{values}\n"), 1));
+    assert_eq!(under("4 2"), report_of(WORKED));
+    assert!(under("4 3").starts_with("iterations reason\n10 2\n"));
+    for operand in ["-1", "0", "1", "2", "3", "31", "32", "65538"] {
+        assert_eq!(
+            under(&format!("2 {operand}")),
+            under(&format!("4 {operand}"))
+        );
+    }
+    assert_eq!(under("4 0"), "refused\n6\n");
+    assert_eq!(under("4 32"), "refused\n6\n");
+    assert_eq!(under("5 2"), "refused\n5\n");
+    assert_eq!(under("260 2"), "refused\n5\n");
+}
+
+#[test]
 fn text_length() {
     let padded = |bytes: usize| {
         let spaces = " ".repeat(bytes - WORKED.len());
@@ -77,13 +94,15 @@ fn tidy_texts() {
 
 #[test]
 fn longest_tidy_text() {
-    let settings = Settings::from_list([10, 2047, 16, 200, 2, 2047]);
-    let mut text = [b'x'; 12_285];
-    let mut write = |len| write(&settings, &[0; 1024], &[-2047; 1024], &mut text[..len]);
-    assert_eq!(write(12_283), Err(Refusal::Slice));
-    assert_eq!(write(12_285), Ok(12_284));
-    assert_eq!(text[12_271..], *b"1023 0 -2047\nx");
-    assert_eq!(tidy(&text[..12_284]), text[..12_284]);
+    for criterion in [2, 4] {
+        let settings = Settings::from_list([10, 2047, 16, 200, criterion, 2047]);
+        let mut text = [b'x'; 12_285];
+        let mut write = |len| write(&settings, &[0; 1024], &[-2047; 1024], &mut text[..len]);
+        assert_eq!(write(12_283), Err(Refusal::Slice));
+        assert_eq!(write(12_285), Ok(12_284));
+        assert_eq!(text[12_271..], *b"1023 0 -2047\nx");
+        assert_eq!(tidy(&text[..12_284]), text[..12_284]);
+    }
 }
 
 /// Reads into slices of these lengths that hold 9, and hands them back.
@@ -177,7 +196,7 @@ fn writer_orders_its_refusals() {
 #[test]
 fn reading_what_is_written() {
     let mut settings = Settings::from_list([3, 2047, 1, 200, 3, 8]);
-    for (criterion, operand) in [(3, 8), (2, 2047), (1, 0), (0, 0)] {
+    for (criterion, operand) in [(4, 2047), (3, 8), (2, 2047), (1, 0), (0, 0)] {
         (settings.criterion, settings.operand) = (criterion, operand);
         let mask = [0, 1, 0, 1, 1, 0, 0, 0];
         let llr = [2047, -2047, 0, -1, 1, 1000, -999, 10];
