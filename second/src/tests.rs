@@ -255,7 +255,12 @@ fn criterion_4_looks_at_information_positions() {
         coded_mark: vec![2; 4],
     };
     let holds = |criterion, operand, information: &[usize]| {
-        endings::holds(criterion, operand, information, &[outputs.clone()])
+        endings::holds(
+            criterion,
+            operand,
+            information,
+            std::slice::from_ref(&outputs),
+        )
     };
     assert!(holds(4, 7, &[1, 3]));
     assert!(!holds(4, 8, &[1, 3]));

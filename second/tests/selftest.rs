@@ -54,6 +54,18 @@ const FAULTS: &[&str] = &[
     "criterion_1_sums",
     "criterion_2_sums",
     "report_sums",
+    "criterion_4_sums",
+    "criterion_4_frozen",
+    "criterion_4_not_the_first",
+    "criterion_4_not_the_last",
+    "criterion_4_larger",
+    "criterion_4_refused",
+    "criterion_4_operand_0",
+    "criterion_4_above_ceiling",
+    "criterion_4_range_of_3",
+    "criterion_5_accepted",
+    "read_criterion_4",
+    "report_criterion_4",
 ];
 
 /// Faults that break what is said of a call on its own.

@@ -41,6 +41,8 @@ mod plan;
 mod programs;
 #[path = "compare/property.rs"]
 mod property;
+#[path = "compare/resting.rs"]
+mod resting;
 #[path = "compare/rng.rs"]
 mod rng;
 #[path = "compare/runs.rs"]
@@ -48,6 +50,9 @@ mod runs;
 #[cfg(feature = "selftest")]
 #[path = "compare/selftest.rs"]
 mod selftest;
+#[cfg(feature = "selftest")]
+#[path = "compare/selftest_criteria.rs"]
+mod selftest_criteria;
 #[cfg(feature = "selftest")]
 #[path = "compare/selftest_frozen.rs"]
 mod selftest_frozen;

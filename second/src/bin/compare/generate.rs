@@ -65,7 +65,7 @@ pub fn bad_ceiling(rng: &mut Rng) -> i64 {
 /// An operand outside the range of the criterion.
 fn bad_operand(rng: &mut Rng, settings: &[i64; 6]) -> i64 {
     let (low, high) = match settings[CRITERION] {
-        2 => (1, settings[CEILING]),
+        2 | 4 => (1, settings[CEILING]),
         3 => (1, 8),
         _ => (0, 0),
     };
@@ -84,7 +84,7 @@ pub fn spoil_setting(rng: &mut Rng, place: usize, settings: &mut [i64; 6]) {
         CEILING => bad_ceiling(rng),
         OPERAND => bad_operand(rng, settings),
         _ => {
-            let (low, high) = [(1, 16), (1, 200), (0, 3)][place - SCALE];
+            let (low, high) = [(1, 16), (1, 200), (0, 4)][place - SCALE];
             match rng.below(3) {
                 0 if low == 1 => 0,
                 0 | 1 => high + rng.between(1, 2),

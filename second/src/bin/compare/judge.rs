@@ -15,7 +15,7 @@ pub struct Judge {
     answers: BTreeMap<String, [u64; 16]>,
     /// By criterion: endings by reason 1, by reason 2; and of the former those
     /// after iteration 1, and those among these at the limit.
-    endings: [[u64; 4]; 4],
+    endings: [[u64; 4]; 5],
     /// By m: decoder calls that ended.
     sizes: [u64; 11],
     /// Other things worth counting.

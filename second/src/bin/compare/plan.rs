@@ -1,6 +1,6 @@
 //! Good blocks to decode: settings, mask and LLRs that nobody refuses.
 
-use crate::frozen::redraw_resting_on_frozen;
+use crate::resting::{redraw_resting_on_frozen, redraw_resting_on_last};
 use crate::rng::Rng;
 use second::decode::{decode_wide, Decoded};
 use second::Settings;
@@ -55,11 +55,11 @@ fn draw_limit(rng: &mut Rng) -> i64 {
 }
 
 /// An operand in its criterion's range.
-fn draw_operand(rng: &mut Rng, criterion: i64, ceiling: i64) -> i64 {
+pub fn draw_operand(rng: &mut Rng, criterion: i64, ceiling: i64) -> i64 {
     match criterion {
-        2 if rng.chance(20) => ceiling,
-        2 if rng.chance(60) => rng.between(1, ceiling.min(20)),
-        2 => rng.between(1, ceiling),
+        2 | 4 if rng.chance(20) => ceiling,
+        2 | 4 if rng.chance(60) => rng.between(1, ceiling.min(20)),
+        2 | 4 => rng.between(1, ceiling),
         3 => rng.between(1, 8),
         _ => 0,
     }
@@ -74,7 +74,7 @@ pub fn good_plan(rng: &mut Rng, m: i64) -> Plan {
         rng.between(1, 16)
     };
     let limit = draw_limit(rng);
-    let criterion = rng.between(0, 3);
+    let criterion = rng.between(0, 4);
     let operand = draw_operand(rng, criterion, ceiling);
     let mask = draw_mask(rng, m);
     let llr = draw_llr(rng, &mask, ceiling);
@@ -86,6 +86,7 @@ pub fn good_plan(rng: &mut Rng, m: i64) -> Plan {
     match rng.below(100) {
         0..=34 if m <= 8 => aim(rng, &mut plan),
         35..=44 if (2..=5).contains(&m) => redraw_resting_on_frozen(rng, &mut plan),
+        45..=49 if (2..=5).contains(&m) => redraw_resting_on_last(rng, &mut plan),
         _ => {}
     }
     plan
@@ -96,10 +97,10 @@ fn decoded(plan: &Plan) -> Option<Decoded> {
     decode_wide(&Settings::from_list(plan.settings), &plan.mask, &plan.llr).ok()
 }
 
-/// Moves an operand of criterion 2 to where it just holds after some
+/// Moves an operand of criterion 2 or 4 to where it just holds after some
 /// iterations, and the limit to the ending or just before it.
 fn aim(rng: &mut Rng, plan: &mut Plan) {
-    if plan.settings[CRITERION] == 2 {
+    if matches!(plan.settings[CRITERION], 2 | 4) {
         let mut trial = plan.clone();
         trial.settings[LIMIT] = rng.between(2, 8);
         trial.settings[CRITERION] = 0;

@@ -2,7 +2,7 @@
 //! without the other one. The environment variable VEDROGNE_WRONG names a
 //! fault that it then has; `compare` must find each of them.
 
-use crate::{selftest_frozen, selftest_scaling};
+use crate::{selftest_criteria, selftest_frozen, selftest_scaling};
 use second::{Channel, Lent, Refusal, Settings, Tally};
 use std::slice::{from_raw_parts, from_raw_parts_mut};
 use std::sync::OnceLock;
@@ -198,10 +198,12 @@ impl Decoding<'_> {
             settings.check()?;
             return Err(Refusal::Llr);
         }
-        let right = second::decode(settings, self.mask, self.llr, &mut self.lent)?;
-        let block = (self.mask, self.llr);
-        let ending = selftest_scaling::with_faults(settings, block, &mut self.lent, right)?;
-        let mut ending = selftest_frozen::with_faults(settings, block, &mut self.lent, ending)?;
+        let settings = &selftest_criteria::taken_as(settings);
+        let (block, lent) = ((self.mask, self.llr), &mut self.lent);
+        let ending = second::decode(settings, self.mask, self.llr, lent)?;
+        let ending = selftest_scaling::with_faults(settings, block, lent, ending)?;
+        let mut ending = selftest_criteria::with_faults(settings, block, lent, ending)?;
+        selftest_frozen::put_faults(settings, self.mask, lent);
         if wrong("reason_at_limit") && i64::from(ending.iterations) == settings.limit {
             ending.reason = 2;
         }

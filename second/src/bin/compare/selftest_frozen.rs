@@ -1,39 +1,17 @@
 //! `selftest` for frozen positions.
 
-use crate::frozen::ending_by_sums;
 use crate::selftest::wrong;
-use second::code::widen;
 use second::decode::decode_wide;
 use second::endings::{mark_of, Outputs};
 use second::report::print;
 use second::text::{accepted, refused};
-use second::{Ending, Lent, Refusal, Settings};
+use second::{Lent, Settings};
 
-/// What a call that has just ended leaves, with the faults that are asked for.
-pub fn with_faults(
-    settings: &Settings,
-    (mask, llr): (&[u8], &[i16]),
-    lent: &mut Lent,
-    mut ending: Ending,
-) -> Result<Ending, Refusal> {
-    let n = 1 << settings.m;
-    // Wrong: a criterion reads the sums of the messages.
-    if (wrong("criterion_1_sums") && settings.criterion == 1)
-        || (wrong("criterion_2_sums") && settings.criterion == 2)
-    {
-        ending = ending_by_sums(settings, &widen(&mask[..n]), &widen(&llr[..n]))?;
-        let until_then = Settings {
-            limit: i64::from(ending.iterations),
-            criterion: 0,
-            operand: 0,
-            ..*settings
-        };
-        second::decode(&until_then, mask, llr, lent)?;
-    }
-    for (i, &value) in mask[..n].iter().enumerate() {
+/// Puts the faults that are asked for into what an accepted call has left.
+pub fn put_faults(settings: &Settings, mask: &[u8], lent: &mut Lent) {
+    for (i, &value) in mask[..1 << settings.m].iter().enumerate() {
         spoil(settings, value == 1, i, lent);
     }
-    Ok(ending)
 }
 
 /// One position with the faults that are asked for.

@@ -1,6 +1,7 @@
 //! `selftest` for the calls that read and write texts.
 
 use crate::selftest::{slice, slice_mut, wrong};
+use crate::selftest_criteria::report_to_limit;
 use crate::selftest_frozen::report_of_sums;
 use crate::text_calls::REPORT_ROOM;
 use second::code::{require_lengths, widen};
@@ -37,6 +38,8 @@ unsafe extern "C" fn vedrogne_read(
         return 7;
     };
     match second::read(text, mask, llr) {
+        // Wrong: the decoder has a criterion that the reader refuses.
+        Ok(read) if wrong("read_criterion_4") && read.criterion == 4 => 5,
         Ok(read) => {
             *settings = read.list().map(|v| v as u32);
             if wrong("read_clears") {
@@ -177,6 +180,8 @@ unsafe extern "C" fn vedrogne_report(
     }
     let report = if wrong("report_sums") {
         report_of_sums(text)
+    } else if wrong("report_criterion_4") {
+        report_to_limit(text)
     } else {
         second::report(text)
     };

@@ -66,7 +66,8 @@ fn spoil_numbers(rng: &mut Rng, plan: &mut Plan) {
     match rng.below(10) {
         0..=2 => plan.settings[rng.below(6)] = wild,
         3 | 4 => {
-            let edges = [(0, 11), (0, 2048), (0, 17), (0, 201), (4, 5), (0, 9)];
+            let operand = rng.pick(&[9, ceiling + 1]);
+            let edges = [(0, 11), (0, 2048), (0, 17), (0, 201), (5, 6), (0, operand)];
             let setting = rng.below(6);
             let (low, high) = edges[setting];
             plan.settings[setting] = if rng.chance(50) { low } else { high };
