@@ -77,6 +77,20 @@ const UNCERTAIN: &[&str] = &[
     "report_sums",
 ];
 
+/// Faults by which criteria 2 and 4 differ, shown by the call that is told.
+const DISAGREEING: &[&str] = &[
+    "criterion_2_sums",
+    "criterion_4_sums",
+    "criterion_4_frozen",
+    "criterion_4_not_the_first",
+    "criterion_4_not_the_last",
+    "criterion_4_larger",
+    "criterion_4_refused",
+    "criterion_4_operand_0",
+    "criterion_4_above_ceiling",
+    "criterion_4_range_of_3",
+];
+
 const REPORT: &str = env!("CARGO_BIN_EXE_report");
 const TIDY: &str = env!("CARGO_BIN_EXE_tidy");
 
@@ -104,6 +118,8 @@ fn every_fault_is_found() {
         let told = String::from_utf8_lossy(&output.stdout);
         let uncertain = told.contains("a frozen position is not certain");
         assert_eq!(uncertain, UNCERTAIN.contains(fault), "{fault}");
+        let disagreeing = told.contains("criteria 2 and 4 disagree");
+        assert_eq!(disagreeing, DISAGREEING.contains(fault), "{fault}");
     }
 }
 

@@ -12,6 +12,8 @@
 //! call, and the program exits with 1. It is built with the environment
 //! variable VEDROGNE_LIB naming the archive, or with the feature `selftest`.
 
+#[path = "compare/agree.rs"]
+mod agree;
 #[path = "compare/calls.rs"]
 mod calls;
 #[path = "compare/comparing.rs"]

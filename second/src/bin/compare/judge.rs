@@ -1,5 +1,6 @@
 //! Makes calls on both sides, compares everything and counts the answers.
 
+use crate::agree::disagreement;
 use crate::calls::{Call, DecodeCall};
 use crate::show::{c_program, differences};
 use std::collections::BTreeMap;
@@ -41,7 +42,8 @@ impl Judge {
         let (mut theirs, mut ours) = (call.clone(), call.clone());
         let their_answer = theirs.foreign();
         let our_answer = ours.second();
-        let mut told = differences((their_answer, &theirs), (our_answer, &ours));
+        let (one, other) = ((their_answer, &theirs), (our_answer, &ours));
+        let mut told = differences(one, other, "second library");
         if their_answer == 0 && our_answer == 0 {
             told += &theirs.broken();
         }
@@ -56,9 +58,11 @@ impl Judge {
         Ok((our_answer, theirs))
     }
 
-    /// `check` for the decoder, which also counts how it ended.
+    /// `check` for the decoder, which also counts how it ended. Beside a
+    /// difference it tells whether criteria 2 and 4 agree on the call.
     pub fn check_decode(&mut self, call: &DecodeCall) -> Result<(u32, DecodeCall), Difference> {
-        let (answer, after) = self.check(call)?;
+        let with_disagreement = |Difference(told)| Difference(told + &disagreement(call));
+        let (answer, after) = self.check(call).map_err(with_disagreement)?;
         if answer == 0 {
             let settings = after.settings.slice();
             let row = &mut self.endings[settings[4] as usize];

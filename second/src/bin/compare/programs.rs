@@ -85,7 +85,7 @@ fn printed(program: &str, text: &[u8]) -> std::io::Result<Output> {
 }
 
 /// The number in a refusal's text, 0 for any other.
-fn answer_of(output: &[u8]) -> u32 {
+pub fn answer_of(output: &[u8]) -> u32 {
     let text = String::from_utf8_lossy(output);
     let number = text.strip_prefix("refused\n").map(str::trim_end);
     number.and_then(|n| n.parse().ok()).unwrap_or(0)

@@ -84,30 +84,28 @@ fn c_printing(memory: &Memory) -> String {
     )
 }
 
-/// What differs between two outcomes of a call, first the answers.
-pub fn differences<C: Call>(foreign: (u32, &C), second: (u32, &C)) -> String {
+/// What differs between two outcomes of a call, first the answers; `origin`
+/// says where the other one is from.
+pub fn differences<C: Call>(one: (u32, &C), other: (u32, &C), origin: &str) -> String {
     let mut text = String::new();
-    if foreign.0 != second.0 {
-        let _ = writeln!(text, "answer: {}, second library {}", foreign.0, second.0);
+    if one.0 != other.0 {
+        let _ = writeln!(text, "answer: {}, {origin}: {}", one.0, other.0);
     }
-    let pairs = foreign.1.memories().into_iter().zip(second.1.memories());
-    for (theirs, ours) in pairs {
-        text += &memory_differences(&theirs, &ours);
+    let pairs = one.1.memories().into_iter().zip(other.1.memories());
+    for (one, other) in pairs {
+        text += &memory_differences(&one, &other, origin);
     }
     text
 }
 
-fn memory_differences(theirs: &Memory, ours: &Memory) -> String {
+fn memory_differences(one: &Memory, other: &Memory, origin: &str) -> String {
     let mut text = String::new();
-    let places = (0..ours.elements.len()).filter(|&i| theirs.elements[i] != ours.elements[i]);
+    let places = (0..one.elements.len()).filter(|&i| one.elements[i] != other.elements[i]);
     for i in places.take(10) {
-        let place = i as i64 - ours.start as i64;
-        let (name, len) = (ours.name, ours.len);
-        let (a, b) = (theirs.elements[i], ours.elements[i]);
-        let _ = writeln!(
-            text,
-            "{name}[{place}] (length {len}): {a}, second library {b}"
-        );
+        let place = i as i64 - one.start as i64;
+        let (name, len) = (one.name, one.len);
+        let (a, b) = (one.elements[i], other.elements[i]);
+        let _ = writeln!(text, "{name}[{place}] (length {len}): {a}, {origin}: {b}");
     }
     text
 }
