@@ -29,7 +29,7 @@
  *     2      the ceiling C is outside 1..2047                                  front, decode, read, write
  *     3      the scale k is outside 1..16                                      decode, read, write
  *     4      the limit T is outside 1..200                                     decode, read, write
- *     5      the criterion is outside 0..3                                     decode, read, write
+ *     5      the criterion is outside 0..4                                     decode, read, write
  *     6      the operand is outside its criterion's range                      decode, read, write
  *     7      a list is shorter than needed. The list of settings and the       all
  *            tally are tested before everything; a message list shorter
@@ -116,6 +116,8 @@ uint32_t vedrogne_front_erasing(
  *              2   every soft output has at least the operand's size, as C at a frozen position has; operand 1 to C
  *              3   the marks at the information positions stayed the same at each of the last W iterations; operand W,
  *                  1 to 8
+ *              4   every information position's soft output has at least the operand's size; operand 1 to C. Whatever
+ *                  else is handed in, a call under 4 returns and leaves the same as a call under 2
  *
  * Written where the call returns 0, else unchanged:
  *   soft, coded_soft    [0..N-1]: how sure each position and each coded bit is; positive for 0, negative for 1;

@@ -1,5 +1,6 @@
 /*
- * A message the whole way: coded, sent over a noisy channel, decoded and read out. examples/c/run builds and runs it.
+ * A message the whole way: coded, sent over a noisy channel, decoded and read out; and decoded by a handset and by a
+ * desk, under criteria 4 and 2, which leave the same behind. examples/c/run builds and runs it.
  */
 #include <stdio.h>
 #include <string.h>
@@ -16,8 +17,12 @@ static const uint8_t mask[N] = {
     1, 1, 1, 0, 1, 0, 0, 0, 1, 0, 0, 0, 0, 0, 0, 0
 };
 
-/* m, ceiling, scale, limit, criterion, operand */
-static const uint32_t settings[6] = { M, CEILING, 15, 50, 1, 0 };
+/* What a call of the decoder leaves. */
+struct decoded {
+    int16_t soft[N], coded_soft[N], work[2 * (M + 1) * N];
+    uint8_t mark[N], coded_mark[N];
+    uint32_t iterations, reason;
+};
 
 /* The next of a fixed run of numbers, from 0 to 65535. */
 static int32_t next_number(uint32_t *state)
@@ -70,12 +75,27 @@ static int refused(const char *call, uint32_t number)
     return number != 0;
 }
 
+/* One call of the decoder, with what it said of its ending printed; 1 where it was refused. */
+static int decode(uint32_t criterion, uint32_t operand, const int16_t *llr, struct decoded *to)
+{
+    const uint32_t settings[6] = { M, CEILING, 15, 50, criterion, operand };
+    if (refused("decode", vedrogne_decode(settings, 6, mask, N, llr, N, to->soft, N, to->mark, N, to->coded_soft, N,
+                                          to->coded_mark, N, to->work, sizeof to->work / sizeof to->work[0],
+                                          &to->iterations, &to->reason))) {
+        return 1;
+    }
+    printf("criterion %u operand %u: iterations %u reason %u\n", (unsigned)criterion, (unsigned)operand,
+           (unsigned)to->iterations, (unsigned)to->reason);
+    return 0;
+}
+
 int main(void)
 {
-    static uint8_t message[K], block[N], mark[N], coded_mark[N], received[K];
+    static uint8_t message[K], block[N], received[K];
     static float samples[N];
-    static int16_t llr[N], soft[N], coded_soft[N], work[2 * (M + 1) * N];
-    uint32_t iterations = 0, reason = 0, state = 7;
+    static int16_t llr[N];
+    static struct decoded decoded, handset, desk;
+    uint32_t state = 7;
 
     for (int i = 0; i < K; i++) {
         message[i] = (uint8_t)(next_number(&state) % 2);
@@ -89,15 +109,14 @@ int main(void)
         return 1;
     }
     printf("%d of %d LLRs have the wrong sign\n", wrong_signs(block, llr), N);
-    if (refused("decode", vedrogne_decode(settings, 6, mask, N, llr, N, soft, N, mark, N, coded_soft, N, coded_mark, N,
-                                          work, sizeof work / sizeof work[0], &iterations, &reason))) {
-        return 1;
-    }
-    if (refused("read_out", vedrogne_read_out(M, mask, N, mark, N, received, K))) {
+    if (decode(1, 0, llr, &decoded) || refused("read_out", vedrogne_read_out(M, mask, N, decoded.mark, N, received, K))) {
         return 1;
     }
     print_bits("received", received);
-    printf("iterations %u reason %u\n", (unsigned)iterations, (unsigned)reason);
     printf(memcmp(message, received, K) == 0 ? "the message came back\n" : "the message did not come back\n");
+    if (decode(4, 12, llr, &handset) || decode(2, 12, llr, &desk)) {
+        return 1;
+    }
+    printf(memcmp(&handset, &desk, sizeof desk) == 0 ? "both leave the same\n" : "they leave different things\n");
     return 0;
 }

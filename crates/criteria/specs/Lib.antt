@@ -5,3 +5,4 @@ pub mod Private
 pub mod CriteriaLaws
 pub mod MemoryLaws
 pub mod SliceLaws
+pub mod Cases

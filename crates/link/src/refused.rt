@@ -26,8 +26,9 @@ pub fn ranges() {
     settings(sized(1, 2048));
     settings(small::of(17, 10, 1, 0));
     settings(small::of(16, 201, 1, 0));
-    settings(small::of(16, 10, 4, 9));
+    settings(small::of(16, 10, 5, 32));
     settings(small::of(16, 10, 2, 32));
+    settings(small::of(16, 10, 4, 32));
 }
 
 // P1 with another mask and other LLRs.

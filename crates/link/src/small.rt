@@ -95,10 +95,12 @@ pub fn first_blocks() {
     pair(b"P5", of(16, 10, 1, 0), &[0, 1], &[7, -31]);
 }
 
-// P6 and P7: the least size, and steady marks.
+// P6 and P7: the least size, of every position and of information positions (2026-04), and steady marks.
 pub fn other_criteria() {
     first(b"P6", of(16, 10, 2, 2));
     first(b"P6", of(16, 10, 2, 3));
+    first(b"P6", of(16, 10, 4, 2));
+    first(b"P6", of(16, 10, 4, 3));
     first(b"P7", of(16, 10, 3, 1));
     first(b"P7", of(16, 1, 3, 1));
 }

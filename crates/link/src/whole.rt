@@ -125,6 +125,7 @@ fn criteria(mask: &[u8], message: &[u8; 32], llr: &[i16]) {
     receive(40, 1, 0, mask, message, llr);
     receive(40, 2, 20, mask, message, llr);
     receive(40, 3, 8, mask, message, llr);
+    receive(40, 4, 20, mask, message, llr);
     receive(1, 1, 0, mask, message, llr);
 }
 

@@ -17,10 +17,12 @@ pub fn worked() {
     say::positions(b"P5", b"0 0 7\n1 1 -31\n");
 }
 
-// P6 to P8: the least size, steady marks, and four positions.
+// P6 to P8: the least size, of every position and of information positions (2026-04), steady marks, and four positions.
 pub fn other_criteria() {
     say::settings(b"P6, operand 2", b"1 31 16 10 2 2");
     say::settings(b"P6, operand 3", b"1 31 16 10 2 3");
+    say::settings(b"P6, criterion 4, operand 2", b"1 31 16 10 4 2");
+    say::settings(b"P6, criterion 4, operand 3", b"1 31 16 10 4 3");
     say::settings(b"P7, limit 10", b"1 31 16 10 3 1");
     say::settings(b"P7, limit 1", b"1 31 16 1 3 1");
     say::block(b"P8", b"2 31 16 10 1 0", b"0 1 1\n1 1 2\n2 1 3\n3 0 4\n");

@@ -1,5 +1,5 @@
--- Document 01, "Blocks worked by hand": P1 to P10 and the boundary values as 2026-02 amends them, and "Readings that
--- look plausible". A table of cases with the values worked by hand, and what the definitions of the contracts of
+-- Document 01, "Blocks worked by hand": P1 to P10 and the boundary values as 2026-02 and 2026-04 amend them,
+-- and "Readings that look plausible". A table of cases with the values worked by hand, and what the definitions of the contracts of
 -- decoder, coder and front give for them. Computed facts.
 use Prim.Native.Nat.{ℕ, zero, suc, _+_, _*_, _^_}
 use mathlib.Core.Path.{_≡_, refl}
@@ -146,6 +146,11 @@ blocks =
     (ends 1 1 (pos 31 ∷ pos 2 ∷ []) (0 ∷ 0 ∷ []) (pos 2 ∷ pos 2 ∷ []) (0 ∷ 0 ∷ []))
     ∷ line (block 1 16 10 2 3 (1 ∷ 0 ∷ []) (pos 5 ∷ minus 3 ∷ []))
     (ends 10 2 (pos 31 ∷ pos 2 ∷ []) (0 ∷ 0 ∷ []) (pos 2 ∷ pos 2 ∷ []) (0 ∷ 0 ∷ []))
+    -- the same under criterion 4 (2026-04). If it looked at frozen positions alone, operand 3 would end at 1 with reason 1
+    ∷ line (block 1 16 10 4 2 (1 ∷ 0 ∷ []) (pos 5 ∷ minus 3 ∷ []))
+    (ends 1 1 (pos 31 ∷ pos 2 ∷ []) (0 ∷ 0 ∷ []) (pos 2 ∷ pos 2 ∷ []) (0 ∷ 0 ∷ []))
+    ∷ line (block 1 16 10 4 3 (1 ∷ 0 ∷ []) (pos 5 ∷ minus 3 ∷ []))
+    (ends 10 2 (pos 31 ∷ pos 2 ∷ []) (0 ∷ 0 ∷ []) (pos 2 ∷ pos 2 ∷ []) (0 ∷ 0 ∷ []))
     -- P7, T = 10 and T = 1
     ∷ line (block 1 16 10 3 1 (1 ∷ 0 ∷ []) (pos 5 ∷ minus 3 ∷ []))
     (ends 2 1 (pos 31 ∷ pos 2 ∷ []) (0 ∷ 0 ∷ []) (pos 2 ∷ pos 2 ∷ []) (0 ∷ 0 ∷ []))
@@ -175,6 +180,15 @@ blocks =
     ∷ line (block 2 16 10 2 20 (1 ∷ 1 ∷ 0 ∷ 1 ∷ []) (minus 10 ∷ minus 10 ∷ minus 10 ∷ minus 10 ∷ []))
     (ends 1 1 (pos 31 ∷ pos 31 ∷ pos 20 ∷ pos 31 ∷ []) (0 ∷ 0 ∷ 0 ∷ 0 ∷ []) (pos 0 ∷ pos 1 ∷ pos 0 ∷ pos 1 ∷ [])
     (2 ∷ 0 ∷ 2 ∷ 0 ∷ []))
+    -- criterion 4 with operand 5 where both positions carry information. Without the first it would hold at 1
+    ∷ line (block 1 16 10 4 5 (0 ∷ 0 ∷ []) (pos 2 ∷ pos 7 ∷ []))
+    (ends 10 2 (pos 2 ∷ pos 7 ∷ []) (0 ∷ 0 ∷ []) (pos 2 ∷ pos 7 ∷ []) (0 ∷ 0 ∷ []))
+    -- its operands 0, 31 and 32, and criterion 5
+    ∷ line (block 1 16 10 4 0 (1 ∷ 0 ∷ []) (pos 5 ∷ minus 3 ∷ [])) (refuses 6)
+    ∷ line (block 1 16 10 4 31 (1 ∷ 0 ∷ []) (pos 31 ∷ pos 3 ∷ []))
+    (ends 1 1 (pos 31 ∷ pos 31 ∷ []) (0 ∷ 0 ∷ []) (pos 31 ∷ pos 31 ∷ []) (0 ∷ 0 ∷ []))
+    ∷ line (block 1 16 10 4 32 (1 ∷ 0 ∷ []) (pos 5 ∷ minus 3 ∷ [])) (refuses 6)
+    ∷ line (block 1 16 10 5 1 (1 ∷ 0 ∷ []) (pos 5 ∷ minus 3 ∷ [])) (refuses 5)
     -- LLRs of 31, -31, 32 and -32768
     ∷ line (block 1 16 10 1 0 (1 ∷ 0 ∷ []) (pos 31 ∷ minus 3 ∷ []))
     (ends 1 1 (pos 31 ∷ pos 28 ∷ []) (0 ∷ 0 ∷ []) (pos 28 ∷ pos 28 ∷ []) (0 ∷ 0 ∷ []))
