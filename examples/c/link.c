@@ -109,7 +109,10 @@ int main(void)
         return 1;
     }
     printf("%d of %d LLRs have the wrong sign\n", wrong_signs(block, llr), N);
-    if (decode(1, 0, llr, &decoded) || refused("read_out", vedrogne_read_out(M, mask, N, decoded.mark, N, received, K))) {
+    if (decode(1, 0, llr, &decoded)) {
+        return 1;
+    }
+    if (refused("read_out", vedrogne_read_out(M, mask, N, decoded.mark, N, received, K))) {
         return 1;
     }
     print_bits("received", received);
