@@ -1,7 +1,8 @@
 #!/usr/bin/env python3
 """Draws curves.svg from curves.csv: frame error rate and iterations of the proved decoder over Eb/N0, by criterion.
 
-Each frame error rate has its 95 % interval (Wilson); a point of fewer than 50 frame errors is hollow.
+Each frame error rate has its 95 % interval (Wilson); a point of fewer than 50 frame errors is hollow. Criteria 2 and 4
+have one curve: it stops if they differ anywhere.
 The data: bench/run curves > docs/curves.csv. Standard library only.
 """
 
@@ -15,12 +16,12 @@ HERE = Path(__file__).parent
 NAMES = {
     "0": ("criterion 0: never", "#8a8a8a", -7.5),
     "1": ("criterion 1: G-matrix", "#0b6fb8", -2.5),
-    "2": ("criterion 2: least size", "#e8862e", 2.5),
+    "2": ("criteria 2 and 4: least size", "#e8862e", 2.5),
     "3": ("criterion 3: steady marks", "#1d7a3e", 7.5),
 }
 NOTES = [
     "Frame error rate: the bar is the 95 % interval (Wilson); a hollow point has fewer than 50 frame errors.",
-    "At each Eb/N0 the four criteria stand side by side, since their error rates nearly coincide.",
+    "At each Eb/N0 the curves stand side by side, since error rates nearly coincide; those of 2 and 4 do entirely.",
 ]
 WIDTH, HEIGHT, TOP, BOTTOM = 500, 420, 56, 60
 FEW = 50
@@ -107,6 +108,7 @@ def wrapped(element):
 
 def main():
     curves, operands = read()
+    assert curves.pop("4") == curves["2"] and operands["4"] == operands["2"], "criteria 2 and 4 differ"
     ratios = sorted({point[0] for points in curves.values() for point in points})
     x_range, x_ticks = (ratios[0] - 0.1, ratios[-1] + 0.1), [db for db in ratios if db * 2 == round(db * 2)]
     errors = Panel(70, "Frame error rate", x_range, (1e-4, 1), True)
