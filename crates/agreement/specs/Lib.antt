@@ -1,3 +1,4 @@
 pub mod Agree
 pub mod LeastSizes
 pub mod Agreement
+pub mod Cases
