@@ -68,7 +68,7 @@ use Rattle.vedrogne.specs.Interface.{
   TalliedCall,
 }
 use Rattle.agreement.specs.Agree.{under, SameDecoding, ListsDiffer, TextsDiffer}
-use Rattle.agreement.specs.LeastSizes.{ending-same}
+use Rattle.agreement.specs.LeastSizes.{ending-agrees}
 
 -- what stands behind a refusal's number is needed where there is none
 result-same : (number : ℕ) (e e′ : Ending) → (number ≡ 0 → e ≡ e′) → resultBy number e ≡ resultBy number e′
@@ -90,7 +90,7 @@ module _ (s : Settings) (mask : List ℕ) (llr : List ℤ) (lent : Slices) where
 
   endings : callNumber (under 2 s) mask llr lent ≡ 0
       → ending (under 4 s) mask llr (lent .work) ≡ ending (under 2 s) mask llr (lent .work)
-  endings none = ending-same s (within none) mask llr (lent .work)
+  endings none = ending-agrees s (within none) mask llr (lent .work)
 
   pub criteria-agree : SameDecoding (under 4 s) (under 2 s) mask llr lent
   unfolding after
@@ -181,7 +181,7 @@ unfolding after
 blocks-same s b within =
     ap (λ (e : Ending).
     outcomeText e (2 ^ s .m) (outputsAt s (b .mask) (after s (b .mask) (b .llr) workspace (e .iteration))))
-    (ending-same s within (b .mask) (b .llr) workspace)
+    (ending-agrees s within (b .mask) (b .llr) workspace)
 
 meant-same : (s : Settings) (b : Block) (number : ℕ) → (number ≡ 0 → s .operand ≤ s .ceiling)
     → textOf (meaningBy number (under 4 s) b) ≡ textOf (meaningBy number (under 2 s) b)

@@ -37,9 +37,9 @@ module _ (s : Settings) (within : s .operand ≤ s .ceiling) (mask : List ℕ) w
   least-sizes-same n w = every-same n _ _ (λ i l. looked-at w i)
 
   -- in a run from any workspace they hold after the same iterations, so that it has the same ending
-  pub holds-same : (w : List ℤ) → holdsAfter (under 4 s) mask w ≡ holdsAfter (under 2 s) mask w
-  holds-same w = fun-ext (λ t. least-sizes-same (2 ^ s .m) (workAfter s mask w t))
+  pub holds-agrees : (w : List ℤ) → holdsAfter (under 4 s) mask w ≡ holdsAfter (under 2 s) mask w
+  holds-agrees w = fun-ext (λ t. least-sizes-same (2 ^ s .m) (workAfter s mask w t))
 
-  pub ending-same : (llr work : List ℤ) → ending (under 4 s) mask llr work ≡ ending (under 2 s) mask llr work
+  pub ending-agrees : (llr work : List ℤ) → ending (under 4 s) mask llr work ≡ ending (under 2 s) mask llr work
   unfolding ending
-  ending-same llr work = ap (λ (holdsAt : ℕ → Bool). endingOf holdsAt (s .limit)) (holds-same (startOf s mask llr work))
+  ending-agrees llr work = ap (λ (holdsAt : ℕ → Bool). endingOf holdsAt (s .limit)) (holds-agrees (startOf s mask llr work))
