@@ -1,4 +1,4 @@
-pub mod Agree
+pub mod SameDecoding
 pub mod LeastSizes
 pub mod Agreement
 pub mod Cases

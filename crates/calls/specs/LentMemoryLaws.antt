@@ -10,6 +10,12 @@ use lib.Seq.{sets, sets-eq, drop-append-add, drop-drop}
 use Rattle.calls.specs.LentMemory.{overwrite, overwriteFrom, writtenOver, unlessRefused}
 
 module _ {A : Type 0} where
+  -- what an accepted call leaves matters only where the call is accepted
+  pub unless-refused-same : (number : ℕ) (new new′ old : A) → (number ≡ 0 → new ≡ new′)
+      → unlessRefused number new old ≡ unlessRefused number new′ old
+  unless-refused-same zero new new′ old h = h refl
+  unless-refused-same (suc number) new new′ old h = refl
+
   pub length-overwrite : (n : ℕ) (g : ℕ → A) (l : List A) → length (overwrite n g l) ≡ length l
   length-overwrite zero g l = refl
   length-overwrite (suc n) g [] = refl

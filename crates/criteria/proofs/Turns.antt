@@ -21,12 +21,12 @@ min-leb o a b = go (leb o a) (leb o b) refl refl
     go true false p q = lt-leb o (min a b) (omega (arith, leb-false o b q))
     go false t p q = lt-leb o (min a b) (omega (arith, leb-false o a p))
 
--- a least size, taken one on
+-- the least size with one position more
 pub least-next : (operand i least size : ℕ) (P : ℕ → Bool) → leb operand least ≡ every i P → leb operand size ≡ P i
     → leb operand (min least size) ≡ every (i + 1) P
 least-next operand i least size P h e = min-leb operand least size ∙ every-next i P h e
 
--- the largest number, at a frozen position, stands in no operand's way
+-- no operand is above the largest number, which stands for the size at a frozen position
 pub size-seen : (operand kind size : ℕ) → operand ≤ 65535
     → leb operand (byKind kind size (λ bit. 65535)) ≡ byKind kind (leb operand size) (λ bit. true)
 size-seen operand kind size h =

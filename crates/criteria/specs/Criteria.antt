@@ -1,14 +1,13 @@
 -- Document 01, "Endings": the criteria, and that of 2026-04. They read marks, soft values and the mask, never messages.
 -- Definitions only.
 use Prim.Native.Nat.{ℕ, suc, _-_, _^_}
-use mathlib.Core.Bool.{Bool, true, false, not, _&&_, Bool·beq}
+use mathlib.Core.Bool.{Bool, false, not, _&&_, Bool·beq}
 use mathlib.Core.List.{List}
 use lib.Dec.{leb, eqb}
 use lib.IntN.{ℤ, natAbs}
-use lib.ListN.{getD}
 use Rattle.calls.specs.Every.{every}
 use Rattle.calls.specs.Bits.{bitOf}
-use Rattle.polar.specs.Mask.{byKind}
+use Rattle.polar.specs.Mask.{everyInformation}
 use Rattle.polar.specs.Code.{coded}
 use Rattle.criteria.specs.declared.Criterion.{Criterion}
 use Rattle.criteria.specs.declared.Criterion.the-variants.{
@@ -35,7 +34,7 @@ leastSize n operand soft = every n (λ i. leb operand (natAbs (soft i)))
 
 -- 3, steady: the marks at information positions equalled those of the iteration before
 abbrev pub sameMarks : ℕ → List ℕ → (ℕ → ℕ) → (ℕ → ℕ) → Bool
-sameMarks n mask before now = every n (λ i. byKind (getD mask i 0) (eqb (before i) (now i)) (λ bit. true))
+sameMarks n mask before now = everyInformation n mask (λ i. eqb (before i) (now i))
 
 -- .. at each of the last W iterations; not before iteration W + 1
 abbrev pub steady : ℕ → (ℕ → Bool) → ℕ → Bool
@@ -44,8 +43,7 @@ steady W same t = leb (suc W) t && every W (λ k. same (t - k))
 -- 4, least size of information positions (2026-04): every information position's soft output has size at least the
 -- operand
 abbrev pub leastInformationSize : ℕ → ℕ → List ℕ → (ℕ → ℤ) → Bool
-leastInformationSize n operand mask soft =
-    every n (λ i. byKind (getD mask i 0) (leb operand (natAbs (soft i))) (λ bit. true))
+leastInformationSize n operand mask soft = everyInformation n mask (λ i. leb operand (natAbs (soft i)))
 
 -- whether the criterion holds after iteration t, where soft t i and codedSoft t i are the soft
 -- outputs of iteration t at position i

@@ -7,11 +7,10 @@ use mathlib.Core.List.{List}
 use native.Mathlib.Omega.{arith}
 use lib.Dec.{leb, eqb}
 use lib.IntN.{ℤ, pos, negsuc, natAbs}
-use lib.ListN.{getD}
 use Rattle.calls.specs.Signs.{flipped}
 use Rattle.calls.specs.SignLaws.{size-flipped}
 use Rattle.calls.specs.Bits.{xor, bitOf}
-use Rattle.polar.specs.Mask.{byKind}
+use Rattle.polar.specs.MaskLaws.{every-information-same}
 use Rattle.polar.specs.Code.{coded}
 use Rattle.polar.specs.TransformLaws.{coded-xor, coded-same}
 use Rattle.criteria.specs.declared.Criterion.{Criterion}
@@ -63,14 +62,13 @@ pub least-information-size-same : (n operand : ℕ) (mask : List ℕ) (soft soft
     → ((i : ℕ) → i < n → soft i ≡ soft′ i)
     → leastInformationSize n operand mask soft ≡ leastInformationSize n operand mask soft′
 least-information-size-same n operand mask soft soft′ h =
-    every-same n _ _ (λ i l.
-    ap (λ (z : ℤ). byKind (getD mask i 0) (leb operand (natAbs z)) (λ bit. true)) (h i l))
+    every-information-same n mask _ _ (λ i l. ap (λ (z : ℤ). leb operand (natAbs z)) (h i l))
 
 pub same-marks-same : (n : ℕ) (mask : List ℕ) (before before′ now now′ : ℕ → ℕ)
     → ((i : ℕ) → i < n → before i ≡ before′ i)
     → ((i : ℕ) → i < n → now i ≡ now′ i) → sameMarks n mask before now ≡ sameMarks n mask before′ now′
 same-marks-same n mask before before′ now now′ h k =
-    every-same n _ _ (λ i l. ap₂ (λ (x y : ℕ). byKind (getD mask i 0) (eqb x y) (λ bit. true)) (h i l) (k i l))
+    every-information-same n mask _ _ (λ i l. ap₂ eqb (h i l) (k i l))
 
 pub steady-same : (W t : ℕ) (same same′ : ℕ → Bool) → ((j : ℕ) → same j ≡ same′ j) → steady W same t ≡ steady W same′ t
 steady-same W t same same′ h = ap (λ (s : ℕ → Bool). steady W s t) (fun-ext h)
@@ -121,9 +119,8 @@ module _ (n : ℕ) (b : ℕ → Bool) (soft soft′ : ℕ → ℤ) (flips : (i :
   pub least-information-size-flipped : (operand : ℕ) (mask : List ℕ)
       → leastInformationSize n operand mask soft′ ≡ leastInformationSize n operand mask soft
   least-information-size-flipped operand mask =
-      every-same n _ _ (λ i l.
-      ap (λ (size : ℕ). byKind (getD mask i 0) (leb operand size) (λ bit. true))
-      (ap natAbs (flips i l) ∙ size-flipped (b i) (soft i)))
+      every-information-same n mask _ _ (λ i l.
+      ap (leb operand) (ap natAbs (flips i l) ∙ size-flipped (b i) (soft i)))
 
   turned : untied n (λ i. markOf (soft i)) ≡ true → (i : ℕ) → i < n
       → bitOf (markOf (soft′ i)) ≡ xor (b i) (bitOf (markOf (soft i)))
@@ -134,9 +131,7 @@ module _ (n : ℕ) (b : ℕ → Bool) (soft soft′ : ℕ → ℤ) (flips : (i :
       → sameMarks n mask (λ i. markOf (before′ i)) (λ i. markOf (soft′ i))
       ≡ sameMarks n mask (λ i. markOf (before i)) (λ i. markOf (soft i))
   same-marks-flipped mask before before′ h =
-      every-same n _ _ (λ i l.
-      ap (λ (x : Bool). byKind (getD mask i 0) x (λ bit. true))
-      (rw (h i l, flips i l) (pair-flipped (b i) (before i) (soft i))))
+      every-information-same n mask _ _ (λ i l. rw (h i l, flips i l) (pair-flipped (b i) (before i) (soft i)))
 
 -- where a mark or a coded mark is tied the criterion fails before and after; elsewhere both sides of the
 -- comparison turn by the coded bit

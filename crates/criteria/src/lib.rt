@@ -1,6 +1,6 @@
 // The criteria: marks of soft values, and whether the criterion holds after an iteration.
 // It sees `calls` and `polar`, and reads marks, soft values and the mask, never a message. It promises document 01's
-// marks and criteria. Its functions are offered to the crates above, which have tested the settings and the lengths.
+// marks and criteria, and that of 2026-04. Its functions are offered to the crates above, which have tested the settings and the lengths.
 ghost use mathlib.Core.Path.{_≡_};
 ghost use mathlib.Core.Bool.{true};
 ghost use Prim.Native.Nat.{_+_, _<_, _≤_, _^_, min};
@@ -77,13 +77,13 @@ fn least_size(operand: u16, soft: &[i16], n: usize) -> bool
     requires { ⌜ SoftValues n (now soft) ⌝ }
     ensures { λ r. ⌜ r ≡ leastSize n operand (λ i. getD (now (soft .entry)) i (pos 0)) ⌝ }
 {
-    let mut least = 65535;
+    let mut least_of_all = 65535;
     let mut i = 0;
     while i < n {
-        least = smaller(least, calls::size(soft[i]));
+        least_of_all = smaller(least_of_all, calls::size(soft[i]));
         i += 1;
     }
-    operand <= least
+    operand <= least_of_all
 }
 
 // The size that criterion 4 sees at a position: at a frozen one, where it doesn't look, the largest number, which no
@@ -106,13 +106,16 @@ fn least_information_size(operand: u16, mask: &[u8], soft: &[i16], n: usize) -> 
     ensures { λ r. ⌜ r
         ≡ leastInformationSize n operand (now (mask .entry)) (λ i. getD (now (soft .entry)) i (pos 0)) ⌝ }
 {
-    let mut smallest = 65535;
+    let mut least_of_information = 65535;
     let mut position = 0;
     while position < n {
-        smallest = smaller(smallest, information_size(mask[position], soft[position]));
+        least_of_information = smaller(
+            least_of_information,
+            information_size(mask[position], soft[position]),
+        );
         position += 1;
     }
-    operand <= smallest
+    operand <= least_of_information
 }
 
 // Whether a position allows criterion 3: it is frozen, or its mark is that of the iteration before.

@@ -1,7 +1,7 @@
 -- What the decoder can answer (a refusal from 1 to 10, or an ending at an iteration from 1 to the largest limit by
 -- reason 1 or 2), and what an accepted call writes at each place.
 use Prim.Native.Nat.{ℕ, zero, suc, _+_, _-_, _^_, _≤_, _<_}
-use mathlib.Core.Path.{_≡_, refl, ap, _∙_}
+use mathlib.Core.Path.{_≡_, refl, ap, ap₂, _∙_}
 use mathlib.Core.Bool.{Bool, true, false, cond}
 use mathlib.Core.List.{List}
 use native.Mathlib.Omega.{arith}
@@ -67,7 +67,13 @@ ending-from holdsAt (suc n) a =
     either (holdsAt a) (here a 1 (omega arith) (omega arith) (omega arith) (omega arith))
     (here _ _ (omega arith) (omega arith) (later .reason-some) (later .reason-le))
 
--- ---- the number
+-- ---- the answer by its number
+
+-- an ending matters only where there is no refusal
+pub result-same : (number number′ : ℕ) (e e′ : Ending) → number′ ≡ number → (number ≡ 0 → e′ ≡ e)
+    → resultBy number′ e′ ≡ resultBy number e
+result-same zero number′ e e′ same h = ap₂ resultBy same (h refl)
+result-same (suc number) number′ e e′ same h = ap (λ (n : ℕ). resultBy n e′) same
 
 check-le : {most : ℕ} (test : Bool) (number next : ℕ) → number ≤ most → next ≤ most → check test number next ≤ most
 check-le true number next h k = k

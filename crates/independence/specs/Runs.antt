@@ -31,7 +31,7 @@ use Rattle.settings.specs.declared.Settings.{Settings}
 use Rattle.settings.specs.Settings.{decodeNumber}
 use Rattle.settings.specs.SettingsLaws.{accepted, number-flipped}
 use Rattle.settings.specs.Slices.{Slices, lengthsOf}
-use Rattle.decoder.specs.Decoder.{Ending, ending, resultBy, callNumber, decodeResult, decodeSlices}
+use Rattle.decoder.specs.Decoder.{ending, callNumber, decodeResult, decodeSlices}
 use Rattle.decoder.specs.ResultLaws.{soft-written, mark-written, codedSoft-written, codedMark-written}
 use Rattle.independence.specs.Verdict.{flippedMark}
 use Rattle.independence.specs.Flips.{Runs}
@@ -99,11 +99,6 @@ pub record Calls (s : Settings) (mask : List ℕ) (u sent : ℕ → Bool) (llr l
   pub long : length llr′ ≡ length llr
   pub lengths : lengthsOf lent′ ≡ lengthsOf lent
 
-answer-by : (number number′ : ℕ) (e e′ : Ending) → number′ ≡ number → (number ≡ 0 → e′ ≡ e)
-    → resultBy number′ e′ ≡ resultBy number e
-answer-by zero number′ e e′ same h = ap₂ resultBy same (h refl)
-answer-by (suc number) number′ e e′ same h = ap (λ (n : ℕ). resultBy n e′) same
-
 module _ {s : Settings} {mask : List ℕ} {u sent : ℕ → Bool} {llr llr′ : List ℤ} {lent lent′ : Slices}
     (c : Calls s mask u sent llr llr′ lent lent′) where
   number-same : callNumber s mask llr′ lent′ ≡ callNumber s mask llr lent
@@ -124,7 +119,7 @@ module _ {s : Settings} {mask : List ℕ} {u sent : ℕ → Bool} {llr llr′ : 
 
   pub answer-same : decodeResult s mask llr′ lent′ ≡ decodeResult s mask llr lent
   answer-same =
-      answer-by (callNumber s mask llr lent) (callNumber s mask llr′ lent′) (ending s mask llr (lent .work))
+      result-same (callNumber s mask llr lent) (callNumber s mask llr′ lent′) (ending s mask llr (lent .work))
       (ending s mask llr′ (lent′ .work))
       number-same (λ ok. ending-same s mask u (runs ok))
 

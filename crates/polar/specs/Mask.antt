@@ -33,6 +33,10 @@ isInformation byte = byKind byte true (λ bit. false)
 abbrev pub frozenBit : ℕ → Bool
 frozenBit byte = byKind byte false (λ bit. bit)
 
+-- whether every information position of the first n passes a test
+abbrev pub everyInformation : ℕ → List ℕ → (ℕ → Bool) → Bool
+everyInformation n mask test = every n (λ i. byKind (getD mask i 0) (test i) (λ bit. true))
+
 -- the bytes that a mask may hold, and the test of its first n: 8
 abbrev pub isMaskByte : ℕ → Bool
 isMaskByte byte = leb byte 1

@@ -1,12 +1,26 @@
--- Laws of the mask's bytes: what `byKind` gives at an information position and at a frozen one, and how a turned sign
--- comes out of it.
-use Prim.Native.Nat.{ℕ, zero, suc}
-use mathlib.Core.Path.{_≡_, refl}
+-- Laws of the mask's bytes: what `byKind` gives at an information position and at a frozen one, how a turned sign comes
+-- out of it, and tests of every information position.
+use Prim.Native.Nat.{ℕ, zero, suc, _<_}
+use mathlib.Core.Path.{_≡_, refl, sym, ap}
 use mathlib.Core.Bool.{Bool, true, false, true≢false, false≢true}
+use mathlib.Core.List.{List}
 use lib.Dec.{eqb, eqb·suc-zero}
 use lib.IntN.{ℤ}
+use lib.ListN.{getD}
+use Rattle.calls.specs.Every.{every}
+use Rattle.calls.specs.EveryLaws.{every-same}
 use Rattle.calls.specs.Signs.{flipped}
-use Rattle.polar.specs.Mask.{Kind, information, frozen, kindOf, onKind, byKind, isInformation, frozenBit}
+use Rattle.polar.specs.Mask.{
+  Kind,
+  information,
+  frozen,
+  kindOf,
+  onKind,
+  byKind,
+  isInformation,
+  frozenBit,
+  everyInformation,
+}
 
 module _ {A : Type 0} (atInformation : A) (atFrozen : Bool → A) where
   pub kind-information : (byte : ℕ) → isInformation byte ≡ true → byKind byte atInformation atFrozen ≡ atInformation
@@ -42,6 +56,26 @@ kind-ap f atInformation atFrozen byte = go (kindOf byte)
     go : (k : Kind) → f (onKind k atInformation atFrozen) ≡ onKind k (f atInformation) (λ bit. f (atFrozen bit))
     go information = refl
     go (frozen bit) = refl
+
+-- ---- tests of every information position
+
+-- they read the first n places alone
+pub every-information-same : (n : ℕ) (mask : List ℕ) (test test′ : ℕ → Bool)
+    → ((i : ℕ) → i < n → test i ≡ test′ i) → everyInformation n mask test ≡ everyInformation n mask test′
+every-information-same n mask test test′ h =
+    every-same n _ _ (λ i l. ap (λ (b : Bool). byKind (getD mask i 0) b (λ bit. true)) (h i l))
+
+-- where frozen positions pass the test as well, it is the test of every position
+pub frozen-passed : (n : ℕ) (mask : List ℕ) (test : ℕ → Bool)
+    → ((i : ℕ) → i < n → isInformation (getD mask i 0) ≡ false → test i ≡ true)
+    → everyInformation n mask test ≡ every n test
+frozen-passed n mask test h = every-same n _ _ (λ i l. go (kindOf (getD mask i 0)) (test i) (h i l))
+  where
+    go : (k : Kind) (b : Bool) → (onKind k true (λ bit. false) ≡ false → b ≡ true) → onKind k b (λ bit. true) ≡ b
+    go information b passed = refl
+    go (frozen bit) b passed = sym (passed refl)
+
+-- ---- signs
 
 -- a sign that is turned at information positions alone comes out of the choice
 pub kind-flipped : (z z′ : ℤ) (atFrozen : Bool → ℤ) (byte : ℕ) (b : Bool) → (isInformation byte ≡ false → b ≡ false)

@@ -123,8 +123,7 @@ accepted s mask llr lengths h =
       within = within-at (2 ^ s .m) (s .ceiling) llr (ten .0);
     }
 
--- the operand of criteria 2 and 4, a least size, and of criterion 3, a count of iterations; an operand is at most the
--- ceiling, or 8, and so at most the largest ceiling
+-- an operand is at most the ceiling, or 8, and so at most the largest ceiling
 fits-le : (C criterion operand : ℕ) → C ≤ largestCeiling → operandFits C criterion operand ≡ true
     → operand ≤ largestCeiling
 fits-le C zero operand h e = omega (arith, eqb-true operand 0 e)
@@ -137,6 +136,7 @@ module _ {s : Settings} (a : SettingsAccepted s) where
   pub operand-le : s .operand ≤ largestCeiling
   operand-le = fits-le (s .ceiling) (s .criterion) (s .operand) (a .ceiling-le) (a .operand)
 
+  -- that of criterion 2, a least size, and of criterion 3, a count of iterations
   pub operand-least : s .criterion ≡ 2 → (1 ≤ s .operand) × (s .operand ≤ s .ceiling)
   operand-least e = between-passed 1 (s .ceiling) (s .operand) (rw e at (a .operand))
 

@@ -18,11 +18,11 @@ use Rattle.criteria.proofs.least_information_size.Statement.{statement}
 use Rattle.criteria.proofs.least_information_size.Tie as tie
 
 abbrev Inv-loop : tie.InvT-loop
-Inv-loop operand mask soft n smallest₀ position₀ smallest position =
-    (position ≤ n) × (leb operand smallest ≡ leastInformationSize position operand mask (λ j. getD soft j (pos 0)))
+Inv-loop operand mask soft n least₀ position₀ least position =
+    (position ≤ n) × (leb operand least ≡ leastInformationSize position operand mask (λ j. getD soft j (pos 0)))
 
 abbrev μ-loop : tie.MeasureT-loop
-μ-loop operand mask soft n smallest₀ position₀ smallest position = n - position
+μ-loop operand mask soft n least₀ position₀ least position = n - position
 
 -- the soft value that a turn reads
 module _ (c : tie.In-loop Inv-loop μ-loop) where
@@ -66,7 +66,7 @@ loop-again c =
     let mask = s .args .mask .now in
     let size = c .before .information-size .ensures
     ∙ ap (λ (z : ℤ). byKind (getD mask i 0) (natAbs z) (λ bit. 65535)) (small-kept (value turn) (small turn)) in
-    let next = least-next operand i (turn .before .loop .smallest) _
+    let next = least-next operand i (turn .before .loop .least-of-information) _
     (λ j. byKind (getD mask j 0) (leb operand (natAbs (getD (s .args .soft .now) j (pos 0)))) (λ bit. true))
     (turn .before .loop .inv .1)
     (ap (leb operand) size ∙ size-seen operand (getD mask i 0) (natAbs (value turn)) (omega arith)) in
@@ -74,7 +74,8 @@ loop-again c =
 
 returns : tie.Need-returns Inv-loop μ-loop
 returns c =
-    let e : c .before .loop .position ≡ c .before .before .before .args .n = omega arith in rw e at (c .before .loop .inv .1)
+    let e : c .before .loop .position ≡ c .before .before .before .args .n = omega arith in
+    rw e at (c .before .loop .inv .1)
 
 pub least-information-size-spec : {M : Type 1} → statement M
 least-information-size-spec =

@@ -56,7 +56,7 @@ loop-again c =
     let at = turn .before in
     let size = c .before .size .ensures ∙ ap natAbs (small-kept (value turn) (small turn)) in
     let operand = at .before .args .operand in
-    let next = least-next operand (at .loop .i) (at .loop .least) _
+    let next = least-next operand (at .loop .i) (at .loop .least-of-all) _
     (λ j. leb operand (natAbs (getD (at .before .args .soft .now) j (pos 0)))) (at .loop .inv .1)
     (ap (leb operand) size) in
     (omega arith, rw (c .smaller .ensures) next)

@@ -1,6 +1,6 @@
 -- `criterion_of` meets its contract.
 use borrow.Author.Needs.{needs}
-use Rattle.decoder.proofs.Loops.{past-three}
+use Rattle.decoder.proofs.Loops.{least-information-size-of}
 use Rattle.decoder.proofs.criterion_of.Statement.{statement}
 use Rattle.decoder.proofs.criterion_of.Tie as tie
 
@@ -27,7 +27,7 @@ returns-5 c =
     let three = c .before in
     let two = three .before in
     let one = two .before in
-    past-three _ (one .before .args .settings) (one .if1 .left) (two .if2 .left) (three .if3 .left) (c .if4 .left)
+    least-information-size-of _ (one .before .args .settings) (one .if1 .left) (two .if2 .left) (three .if3 .left) (c .if4 .left)
 
 pub criterion-of-spec : {M : Type 1} → statement M
 criterion-of-spec = tie.close (tie.spec returns returns-2 cast-t5 returns-3 returns-4 cast-t6 returns-5)

@@ -42,7 +42,8 @@ returns-5 c =
     let a = c .before .before .args in
     let others = c .before .match .rest in
     c .between3 .ensures
-    ∙ past-three (a .ceiling) (a .criterion) (a .operand) (others .0 .0 .0 .1) (others .0 .0 .1) (others .0 .1) (others .1)
+    ∙ past-three (a .ceiling) (a .criterion) (a .operand) (others .0 .0 .0 .1) (others .0 .0 .1) (others .0 .1)
+    (others .1)
 
 pub operand-fits-spec : {M : Type 1} → statement M
 operand-fits-spec =

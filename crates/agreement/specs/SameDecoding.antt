@@ -1,15 +1,14 @@
 -- Request 2026-04: two calls that differ in the criterion alone, and what it means that they agree. Definitions only.
 use Prim.Native.Nat.{ℕ}
 use mathlib.Core.Path.{_≡_}
-use mathlib.Core.List.{List}
+use mathlib.Core.List.{List, _∷_}
 use lib.IntN.{ℤ}
 use lib.ListN.{length}
 use Rattle.settings.specs.declared.Settings.{Settings}
 use Rattle.settings.specs.Slices.{Slices}
 use Rattle.decoder.specs.Decoder.{decodeResult, decodeSlices}
-use Rattle.scan.specs.Reading.{found}
+use Rattle.scan.specs.Reading.{Reading, found, bind}
 use Rattle.report_input.specs.Input.{head}
-use Rattle.vedrogne.specs.Interface.{settingsIn}
 
 -- the settings with this criterion, all else as it was
 abbrev pub under : ℕ → Settings → Settings
@@ -29,14 +28,18 @@ pub record SameDecoding (s s′ : Settings) (mask : List ℕ) (llr : List ℤ) (
   pub answer : decodeResult s mask llr lent ≡ decodeResult s′ mask llr lent
   pub slices : decodeSlices s mask llr lent ≡ decodeSlices s′ mask llr lent
 
--- two lists of settings, as C hands them in, and two texts, that differ in the criterion alone: 4 in the first and 2 in
--- the second. Of a text `rest` is what follows its first three lines
-pub record ListsDiffer (s : Settings) (list list′ : List ℕ) : Type 0 where
-  pub four : settingsIn list ≡ under 4 s
-  pub two : settingsIn list′ ≡ under 2 s
-  pub long : length list ≡ length list′
+-- a list of settings with this criterion, as C hands it in; `behind` are the operand and what follows it. A list of
+-- fewer than five elements has no criterion, and is refused with 7
+abbrev pub listUnder : ℕ → ℕ → ℕ → ℕ → ℕ → List ℕ → List ℕ
+listUnder criterion m ceiling scale limit behind = m ∷ ceiling ∷ scale ∷ limit ∷ criterion ∷ behind
 
-pub record TextsDiffer (s : Settings) (rest text text′ : List ℕ) : Type 0 where
-  pub four : head text ≡ found (under 4 s) rest
-  pub two : head text′ ≡ found (under 2 s) rest
-  pub long : length text ≡ length text′
+-- what the first three lines of a text say, with this criterion; malformed ones say nothing
+abbrev pub readingUnder : ℕ → Reading Settings → Reading Settings
+readingUnder criterion reading = bind reading (λ s rest. found (under criterion s) rest)
+
+-- two texts of the same length whose first three lines differ in the criterion alone, 4 in the first and 2 in the
+-- second, and that have the same bytes behind them
+pub record TextsDiffer (reading : Reading Settings) (text text′ : List ℕ) : Type 0 where
+  pub four : head text ≡ readingUnder 4 reading
+  pub two : head text′ ≡ readingUnder 2 reading
+  pub lengths : length text ≡ length text′
