@@ -89,6 +89,7 @@ const DISAGREEING: &[&str] = &[
     "criterion_4_operand_0",
     "criterion_4_above_ceiling",
     "criterion_4_range_of_3",
+    "report_criterion_4",
 ];
 
 const REPORT: &str = env!("CARGO_BIN_EXE_report");

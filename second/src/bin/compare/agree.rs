@@ -67,6 +67,8 @@ pub fn disagreement<C: Named>(call: &C) -> String {
     format!("criteria 2 and 4 disagree:\n{told}")
 }
 
+/// Both calls have been compared with the second library before, so this finds
+/// what both libraries have wrong alike.
 fn require_agreement<C: Named>(call: &C) -> Result<(), Difference> {
     let told = disagreement(call);
     if told.is_empty() {
@@ -96,8 +98,8 @@ pub fn check_decode(judge: &mut Judge, call: &DecodeCall) -> Result<(), Differen
 
 /// The same for a report, with either criterion in its text.
 pub fn check_report(judge: &mut Judge, call: &ReportCall) -> Result<(), Difference> {
-    let (answer, after) = judge.check(&under(call, 2))?;
-    judge.check(&under(call, 4))?;
+    let (answer, after) = judge.check_named(&under(call, 2))?;
+    judge.check_named(&under(call, 4))?;
     require_agreement(call)?;
     if answer == 0 {
         let number = answer_of(after.report_written());

@@ -53,6 +53,6 @@ fn check_decode(rng: &mut Rng, judge: &mut Judge, tallied: bool) -> Result<(), D
 
 fn check_report_call(rng: &mut Rng, judge: &mut Judge) -> Result<(), Difference> {
     let call = draw_report(rng);
-    judge.check(&call)?;
+    judge.check_named(&call)?;
     agree::check_report(judge, &call)
 }

@@ -1,6 +1,6 @@
 //! Makes calls on both sides, compares everything and counts the answers.
 
-use crate::agree::disagreement;
+use crate::agree::{disagreement, Named};
 use crate::calls::{Call, DecodeCall};
 use crate::show::{c_program, differences};
 use std::collections::BTreeMap;
@@ -58,11 +58,16 @@ impl Judge {
         Ok((our_answer, theirs))
     }
 
-    /// `check` for the decoder, which also counts how it ended. Beside a
-    /// difference it tells whether criteria 2 and 4 agree on the call.
-    pub fn check_decode(&mut self, call: &DecodeCall) -> Result<(u32, DecodeCall), Difference> {
+    /// `check` for a call that names the criterion: beside a difference it
+    /// tells where criteria 2 and 4 disagree.
+    pub fn check_named<C: Named>(&mut self, call: &C) -> Result<(u32, C), Difference> {
         let with_disagreement = |Difference(told)| Difference(told + &disagreement(call));
-        let (answer, after) = self.check(call).map_err(with_disagreement)?;
+        self.check(call).map_err(with_disagreement)
+    }
+
+    /// `check_named` for the decoder, which also counts how it ended.
+    pub fn check_decode(&mut self, call: &DecodeCall) -> Result<(u32, DecodeCall), Difference> {
+        let (answer, after) = self.check_named(call)?;
         if answer == 0 {
             let settings = after.settings.slice();
             let row = &mut self.endings[settings[4] as usize];

@@ -1,6 +1,6 @@
 //! Blocks whose ending rests on frozen positions, where the messages say
-//! something else, or on the last information position, which is mostly the
-//! surest.
+//! something else, or on the last information position, which mostly has the
+//! largest size.
 
 use crate::plan::{draw_operand, noisy_block, Plan, CEILING, CRITERION, LIMIT, OPERAND, SCALE};
 use crate::rng::Rng;
@@ -9,7 +9,8 @@ use second::messages::Messages;
 use second::{Ending, Settings};
 
 /// Where the decoder would end if the criteria read the sums of the messages
-/// at frozen positions too, criterion 4 among them. The block is a good one.
+/// at frozen positions too; criterion 4 then reads every position. The block is
+/// a good one.
 pub fn ending_by_sums(settings: &Settings, mask: &[i64], llr: &[i64]) -> Ending {
     let nothing_frozen = vec![0; mask.len()];
     let every_position: Vec<usize> = (0..mask.len()).collect();

@@ -96,7 +96,7 @@ fn reported(rng: &mut Rng, judge: &mut Judge, text: &[u8]) -> Result<Vec<u8>, Di
         out: Fenced::blank(rng, out_len),
         written: Fenced::blank(rng, 1),
     };
-    let (answer, after) = judge.check(&call)?;
+    let (answer, after) = judge.check_named(&call)?;
     accepted(answer, &call)?;
     Ok(after.report_written().to_vec())
 }
