@@ -141,28 +141,42 @@ fn block_table(random: &mut Random) {
     }
 }
 
-/// Criteria 2 and 4 with an operand that is never reached, so that both are tried at every iteration up to the limit.
+/// Criteria 2 and 4 on the same blocks, which both end at the same iterations.
 fn criteria_table(random: &mut Random) {
     println!(
-        "\nOne iteration of the proved decoder at m = 10 under criteria 0, 2 and 4 (ns, best of 100 rounds of 200 \
-         iterations)"
+        "\nBlocks at m = 10 under criteria 2 and 4, operand 32, limit 50 (best of 25 rounds of 100 blocks): \
+         iterations, ns an iteration under 2, under 4, ratio"
     );
-    for information in [512, 32] {
-        let mut block = noisy(10, 2.5, random);
-        block.mask = noise::mask(10, information, 2.0);
-        block.llr.fill(0);
-        let mut to = lent(10);
-        let mut best = [f64::MAX; 3];
-        for _ in 0..100 {
-            for (best, criterion) in best.iter_mut().zip([(0, 0), (2, 1), (4, 1)]) {
+    // the fewer information positions, the more noise is borne
+    for (information, db) in [(512, 2.5), (32, -8.0)] {
+        let mask = noise::mask(10, information, db);
+        let mut blocks: Vec<Block> = (0..100).map(|_| noisy(10, db, random)).collect();
+        blocks
+            .iter_mut()
+            .for_each(|block| block.mask.clone_from(&mask));
+        let mut to = [lent(10), lent(10)];
+        let (mut best, mut iterations) = ([f64::MAX; 2], [0u32; 2]);
+        for _ in 0..25 {
+            iterations = [0; 2];
+            for (which, criterion) in [(2, 32), (4, 32)].into_iter().enumerate() {
                 let begin = Instant::now();
-                assert_eq!(proved(&block, criterion, 200, &mut to), 200);
-                *best = best.min(begin.elapsed().as_nanos() as f64 / 200.0);
+                for block in &blocks {
+                    iterations[which] += proved(block, criterion, 50, &mut to[which]);
+                }
+                best[which] = best[which].min(begin.elapsed().as_secs_f64());
             }
+            assert!(
+                to[0] == to[1] && iterations[0] == iterations[1],
+                "the criteria disagree"
+            );
         }
+        let all = f64::from(iterations[0]);
         println!(
-            "K = {information:3} {:9.0} {:9.0} {:9.0}",
-            best[0], best[1], best[2]
+            "K = {information:3} {:6.2} {:8.0} {:8.0} {:6.3}",
+            all / blocks.len() as f64,
+            best[0] * 1e9 / all,
+            best[1] * 1e9 / all,
+            best[1] / best[0]
         );
     }
 }

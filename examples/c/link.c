@@ -75,7 +75,7 @@ static int refused(const char *call, uint32_t number)
     return number != 0;
 }
 
-/* One call of the decoder, with what it said of its ending printed; 1 where it was refused. */
+/* Calls the decoder and prints how it ended; 1 where it was refused. */
 static int decode(uint32_t criterion, uint32_t operand, const int16_t *llr, struct decoded *to)
 {
     const uint32_t settings[6] = { M, CEILING, 15, 50, criterion, operand };
@@ -120,6 +120,6 @@ int main(void)
     if (decode(4, 12, llr, &handset) || decode(2, 12, llr, &desk)) {
         return 1;
     }
-    printf(memcmp(&handset, &desk, sizeof desk) == 0 ? "both leave the same\n" : "they leave different things\n");
+    printf("criteria 4 and 2: %s outputs\n", memcmp(&handset, &desk, sizeof desk) == 0 ? "the same" : "different");
     return 0;
 }

@@ -1,5 +1,5 @@
--- Texts that differ in the criterion alone: P6 under criteria 4 and 2, and two whose first lines are malformed. Computed
--- facts.
+-- Texts that differ in the criterion alone: P6 under criteria 4 and 2, and two whose first lines are malformed.
+-- Computed facts.
 use Prim.Native.Nat.{ℕ}
 use mathlib.Core.Path.{_≡_, refl}
 use mathlib.Core.List.{List, _++_}

@@ -1,6 +1,7 @@
 // The criteria: marks of soft values, and whether the criterion holds after an iteration.
 // It sees `calls` and `polar`, and reads marks, soft values and the mask, never a message. It promises document 01's
-// marks and criteria, and that of 2026-04. Its functions are offered to the crates above, which have tested the settings and the lengths.
+// marks and criteria, and the criterion of 2026-04. Its functions are offered to the crates above, which have tested
+// the settings and the lengths.
 ghost use mathlib.Core.Path.{_≡_};
 ghost use mathlib.Core.Bool.{true};
 ghost use Prim.Native.Nat.{_+_, _<_, _≤_, _^_, min};

@@ -33,8 +33,8 @@ module _ {rule : MinSum} {m : ℕ} {w : List ℤ} (valid : WorkspaceValid rule m
   pub message-small : natAbs (row m w k i) ≤ rule .ceiling
   message-small = valid .within (k * 2 ^ m + i) (row-lt m k i hk hi)
 
-pub least-information-size-of : (criterion : ℕ) (s : Settings) → (criterion ≡ 0 → ⊥) → (criterion ≡ 1 → ⊥) → (criterion ≡ 2 → ⊥)
-    → (criterion ≡ 3 → ⊥) → LeastInformationSize (s .operand) ≡ criterionBy criterion s
+pub least-information-size-of : (criterion : ℕ) (s : Settings) → (criterion ≡ 0 → ⊥) → (criterion ≡ 1 → ⊥)
+    → (criterion ≡ 2 → ⊥) → (criterion ≡ 3 → ⊥) → LeastInformationSize (s .operand) ≡ criterionBy criterion s
 least-information-size-of zero s a b c d = absurd (a refl)
 least-information-size-of (suc zero) s a b c d = absurd (b refl)
 least-information-size-of (suc (suc zero)) s a b c d = absurd (c refl)

@@ -1,5 +1,5 @@
--- Document 01, the outputs of "Messages" as 2026-02 amends them, "Endings" with the criterion of 2026-04, and what a call
--- of the decoder answers and leaves. Definitions only.
+-- Document 01, the outputs of "Messages" as 2026-02 amends them, "Endings" with the criterion of 2026-04, and what a
+-- call of the decoder answers and leaves. Definitions only.
 use Prim.Native.Nat.{ℕ, zero, suc, _-_, _^_}
 use mathlib.Core.Path.{_≡_}
 use mathlib.Core.Bool.{Bool, cond}

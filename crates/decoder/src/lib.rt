@@ -1,7 +1,7 @@
 // The decoder: LLRs become soft outputs, marks, an iteration and a reason.
 // It sees the promises of `settings`, `sweeps`, `criteria`, `message` and `polar`. It promises that the answer, the
-// four outputs and the workspace equal document 01's definitions as 2026-02 and 2026-04 amend them, that nothing else is written,
-// and nothing at all after a refusal.
+// four outputs and the workspace equal document 01's definitions as 2026-02 and 2026-04 amend them, that nothing else
+// is written, and nothing at all after a refusal.
 ghost use mathlib.Core.Path.{_≡_};
 ghost use Prim.Native.Nat.{_<_, _≤_, _^_};
 ghost use lib.IntN.{natAbs};

@@ -1,7 +1,7 @@
 -- From samples and lent slices to the two runs of Flips: the block sent, the LLRs of the front, and what two calls of
 -- the decoder with such LLRs answer and leave.
-use Prim.Native.Nat.{ℕ, zero, suc, _^_, _≤_, _<_}
-use mathlib.Core.Path.{_≡_, refl, sym, ap, ap₂, _∙_}
+use Prim.Native.Nat.{ℕ, _^_, _≤_, _<_}
+use mathlib.Core.Path.{_≡_, sym, ap, _∙_}
 use mathlib.Core.Bool.{Bool, false, _&&_}
 use mathlib.Core.List.{List}
 use native.Mathlib.Omega.{arith}
@@ -32,7 +32,7 @@ use Rattle.settings.specs.Settings.{decodeNumber}
 use Rattle.settings.specs.SettingsLaws.{accepted, number-flipped}
 use Rattle.settings.specs.Slices.{Slices, lengthsOf}
 use Rattle.decoder.specs.Decoder.{ending, callNumber, decodeResult, decodeSlices}
-use Rattle.decoder.specs.ResultLaws.{soft-written, mark-written, codedSoft-written, codedMark-written}
+use Rattle.decoder.specs.ResultLaws.{result-same, soft-written, mark-written, codedSoft-written, codedMark-written}
 use Rattle.independence.specs.Verdict.{flippedMark}
 use Rattle.independence.specs.Flips.{Runs}
 use Rattle.independence.specs.Front.{OddFront, channelFront}

@@ -120,7 +120,7 @@ fn receive(limit: u32, criterion: u32, operand: u32, mask: &[u8], message: &[u8;
     read_out(mask, &mark, message);
 }
 
-// Each criterion; then the limit, before the criterion can hold.
+// Each criterion from 1 on; then the limit, before the criterion can hold.
 fn criteria(mask: &[u8], message: &[u8; 32], llr: &[i16]) {
     receive(40, 1, 0, mask, message, llr);
     receive(40, 2, 20, mask, message, llr);

@@ -1,6 +1,6 @@
--- Document 01, the decoder's lines of "Numbers by who causes them": 1 to 10, of which 2026-04 amends 5 and 6. Definitions
--- only.
-use Prim.Native.Nat.{ℕ, zero, suc, _+_, _*_, _^_}
+-- Document 01, the decoder's lines of "Numbers by who causes them": 1 to 10, of which 2026-04 amends 5 and 6.
+-- Definitions only.
+use Prim.Native.Nat.{ℕ, zero, suc, _^_}
 use mathlib.Core.Bool.{Bool, _&&_}
 use mathlib.Core.List.{List, [], _∷_}
 use lib.Dec.{leb, eqb}

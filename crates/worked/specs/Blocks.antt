@@ -1,6 +1,6 @@
--- Document 01, "Blocks worked by hand": P1 to P10 and the boundary values as 2026-02 and 2026-04 amend them,
--- and "Readings that look plausible". A table of cases with the values worked by hand, and what the definitions of the contracts of
--- decoder, coder and front give for them. Computed facts.
+-- Document 01, "Blocks worked by hand": P1 to P10 and the boundary values as 2026-02 and 2026-04 amend them, and
+-- "Readings that look plausible". A table of cases with the values worked by hand, and what the definitions of the
+-- contracts of decoder, coder and front give for them. Computed facts.
 use Prim.Native.Nat.{ℕ, zero, suc, _+_, _*_, _^_}
 use mathlib.Core.Path.{_≡_, refl}
 use mathlib.Core.List.{List, [], _∷_, _++_, map}
@@ -146,7 +146,7 @@ blocks =
     (ends 1 1 (pos 31 ∷ pos 2 ∷ []) (0 ∷ 0 ∷ []) (pos 2 ∷ pos 2 ∷ []) (0 ∷ 0 ∷ []))
     ∷ line (block 1 16 10 2 3 (1 ∷ 0 ∷ []) (pos 5 ∷ minus 3 ∷ []))
     (ends 10 2 (pos 31 ∷ pos 2 ∷ []) (0 ∷ 0 ∷ []) (pos 2 ∷ pos 2 ∷ []) (0 ∷ 0 ∷ []))
-    -- the same under criterion 4 (2026-04). If it looked at frozen positions alone, operand 3 would end at 1 with reason 1
+    -- the same under criterion 4 (2026-04). Looking at frozen positions instead, operand 3 would end at 1 with reason 1
     ∷ line (block 1 16 10 4 2 (1 ∷ 0 ∷ []) (pos 5 ∷ minus 3 ∷ []))
     (ends 1 1 (pos 31 ∷ pos 2 ∷ []) (0 ∷ 0 ∷ []) (pos 2 ∷ pos 2 ∷ []) (0 ∷ 0 ∷ []))
     ∷ line (block 1 16 10 4 3 (1 ∷ 0 ∷ []) (pos 5 ∷ minus 3 ∷ []))

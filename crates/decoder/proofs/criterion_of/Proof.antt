@@ -27,7 +27,8 @@ returns-5 c =
     let three = c .before in
     let two = three .before in
     let one = two .before in
-    least-information-size-of _ (one .before .args .settings) (one .if1 .left) (two .if2 .left) (three .if3 .left) (c .if4 .left)
+    least-information-size-of _ (one .before .args .settings) (one .if1 .left) (two .if2 .left) (three .if3 .left)
+    (c .if4 .left)
 
 pub criterion-of-spec : {M : Type 1} → statement M
 criterion-of-spec = tie.close (tie.spec returns returns-2 cast-t5 returns-3 returns-4 cast-t6 returns-5)
