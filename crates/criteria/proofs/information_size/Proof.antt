@@ -1,5 +1,5 @@
 -- `information_size` meets its contract.
-use mathlib.Core.Path.{sym, ap, _∙_}
+use mathlib.Core.Path.{_≡_, sym, ap, _∙_}
 use borrow.Author.Needs.{needs}
 use lib.IntN.{natAbs}
 use Rattle.polar.specs.MaskLaws.{kind-information, kind-frozen}
@@ -13,17 +13,21 @@ size-requires c κs = search needs
 is-information-requires : tie.Need-is-information-requires
 is-information-requires c κs = search needs
 
+-- the size, in the terms of the contract
+size-is : (c : tie.After-size) → c .size .result ≡ natAbs (c .before .args .value)
+size-is c = c .size .ensures ∙ ap natAbs (small-kept (c .before .args .value) (c .before .pre))
+
 returns : tie.Need-returns
 returns c =
     let sized = c .before .before in
-    let s = sized .before in
-    sized .size .ensures ∙ ap natAbs (small-kept (s .args .value) (s .pre))
-    ∙ sym (kind-information _ (λ bit. 65535) (s .args .kind) (sym (c .before .is-information .ensures) ∙ c .if1 .taken))
+    rw (kind-information _ _ (sized .before .args .kind) (sym (c .before .is-information .ensures) ∙ c .if1 .taken))
+    (search (size-is sized))
 
 returns-2 : tie.Need-returns-2
 returns-2 c =
-    let s = c .before .before .before in
-    sym (kind-frozen _ (λ bit. 65535) (s .args .kind) (sym (c .before .is-information .ensures) ∙ c .if1 .left))
+    let sized = c .before .before in
+    rw (kind-frozen _ _ (sized .before .args .kind) (sym (c .before .is-information .ensures) ∙ c .if1 .left))
+    (search (size-is sized))
 
 pub information-size-spec : {M : Type 1} → statement M
 information-size-spec = tie.close (tie.spec size-requires is-information-requires returns returns-2)
