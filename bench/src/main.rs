@@ -147,7 +147,7 @@ fn criteria_table(random: &mut Random) {
         "\nBlocks at m = 10 under criteria 2 and 4, operand 32, limit 50 (best of 25 rounds of 100 blocks): \
          iterations, ns an iteration under 2, under 4, ratio"
     );
-    // the fewer information positions, the more noise is borne
+    // fewer information positions can be decoded with more noise
     for (information, db) in [(512, 2.5), (32, -8.0)] {
         let mask = noise::mask(10, information, db);
         let mut blocks: Vec<Block> = (0..100).map(|_| noisy(10, db, random)).collect();

@@ -111,6 +111,7 @@ module _ (m ceiling scale limit : ℕ) (behind mask : List ℕ) (llr : List ℤ)
   same : SameDecoding (settingsIn (list 4)) (settingsIn (list 2)) mask llr (before .slices)
   same = criteria-agree (settingsIn (list 2)) mask llr (before .slices)
 
+  -- `first` is the number of what is tested before the decoder's own tests: the lengths of the lists, the tally
   results : (first : ℕ) → callResult first (list 4) mask llr before ≡ callResult first (list 2) mask llr before
   results first = ap (answerBy first) (same .answer)
 
@@ -146,6 +147,7 @@ module _ (m ceiling scale limit : ℕ) (behind mask : List ℕ) (llr : List ℤ)
 
 -- ---- the report, of two texts that differ in the criterion alone, refused ones among them
 
+-- the text of an accepted block
 blocks-same : (s : Settings) (b : Block) → under 2 s .operand ≤ under 2 s .ceiling
     → blockText (under 4 s) b workspace ≡ blockText (under 2 s) b workspace
 unfolding after
@@ -155,11 +157,13 @@ blocks-same s b within =
     (outputsAt (under 2 s) (b .mask) (after (under 2 s) (b .mask) (b .llr) workspace (e .iteration))))
     (ending-agrees s within (b .mask) (b .llr) workspace)
 
+-- of a block by its number
 meant-same : (s : Settings) (b : Block) (number : ℕ) → (number ≡ 0 → under 2 s .operand ≤ under 2 s .ceiling)
     → textOf (meaningBy number (under 4 s) b) ≡ textOf (meaningBy number (under 2 s) b)
 meant-same s b zero within = blocks-same s b (within refl)
 meant-same s b (suc number) within = refl
 
+-- of the lines of positions, whatever was read of them
 tested-same : (s : Settings) (read : Reading Block)
     → textOf (tested largestRoom (under 4 s) read) ≡ textOf (tested largestRoom (under 2 s) read)
 tested-same s (found b []) =
@@ -168,10 +172,12 @@ tested-same s (found b []) =
 tested-same s (found b (x ∷ behind)) = refl
 tested-same s malformed = refl
 
+-- a test that both texts pass or fail
 cond-same : (test : Bool) (a b c : Meaning) → textOf a ≡ textOf b → textOf (cond test a c) ≡ textOf (cond test b c)
 cond-same true a b c e = e
 cond-same false a b c e = refl
 
+-- of the first three lines
 sized-same : (reading : Reading Settings)
     → textOf (sized largestRoom (readingUnder 4 reading)) ≡ textOf (sized largestRoom (readingUnder 2 reading))
 sized-same (found s rest) =

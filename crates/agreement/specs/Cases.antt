@@ -1,4 +1,4 @@
--- Texts that differ in the criterion alone: P6 under criteria 4 and 2, and two whose first lines are malformed.
+-- Texts that differ in the criterion alone: P6 under criteria 4 and 2, and two whose settings line has a value too few.
 -- Computed facts.
 use Prim.Native.Nat.{ℕ}
 use mathlib.Core.Path.{_≡_, refl}
@@ -13,6 +13,7 @@ use Rattle.report_text.specs.Report.{report}
 use Rattle.agreement.specs.SameDecoding.{TextsDiffer}
 use Rattle.agreement.specs.Agreement.{report-agrees}
 
+-- what both texts say; `readingUnder` puts 4 and 2 in the place of its criterion
 abbrev settings : Settings
 settings = record { m = 1; ceiling = 31; scale = 16; limit = 10; criterion = 1; operand = 3 }
 

@@ -21,9 +21,10 @@ least-sizes-same s within mask n w =
     frozen-passed n mask _ (λ i l frozen.
     ap (leb (s .operand)) (frozen-size-at s mask w i frozen) ∙ le-leb (s .operand) (s .ceiling) within)
 
--- in a run from any workspace they hold after the same iterations, so that it has the same ending
+-- in a run from any workspace they hold after the same iterations, so that it has the same ending. The premise is of
+-- `under 2 s`, and not of s, so that it rests on `under` alone
 module _ (s : Settings) (within : under 2 s .operand ≤ under 2 s .ceiling) (mask : List ℕ) where
-  pub holds-agrees : (w : List ℤ) → holdsAfter (under 4 s) mask w ≡ holdsAfter (under 2 s) mask w
+  holds-agrees : (w : List ℤ) → holdsAfter (under 4 s) mask w ≡ holdsAfter (under 2 s) mask w
   holds-agrees w = fun-ext (λ t. least-sizes-same (under 2 s) within mask (2 ^ s .m) (workAfter (under 2 s) mask w t))
 
   pub ending-agrees : (llr work : List ℤ) → ending (under 4 s) mask llr work ≡ ending (under 2 s) mask llr work

@@ -2,13 +2,14 @@
 use Prim.Native.Nat.{ℕ}
 use mathlib.Core.Path.{_≡_}
 use mathlib.Core.List.{List, _∷_}
+use lib.Dec.{leb}
 use lib.IntN.{ℤ}
 use lib.ListN.{length}
 use Rattle.settings.specs.declared.Settings.{Settings}
 use Rattle.settings.specs.Slices.{Slices}
 use Rattle.decoder.specs.Decoder.{decodeResult, decodeSlices}
 use Rattle.scan.specs.Reading.{Reading, found, bind}
-use Rattle.report_input.specs.Input.{head}
+use Rattle.report_input.specs.Input.{longestText, head}
 
 -- the settings with this criterion, all else as it was
 abbrev pub under : ℕ → Settings → Settings
@@ -37,9 +38,9 @@ listUnder criterion m ceiling scale limit behind = m ∷ ceiling ∷ scale ∷ l
 abbrev pub readingUnder : ℕ → Reading Settings → Reading Settings
 readingUnder criterion reading = bind reading (λ s rest. found (under criterion s) rest)
 
--- two texts of the same length whose first three lines differ in the criterion alone, 4 in the first and 2 in the
--- second, and that have the same bytes behind them
+-- two texts, both too long or neither, whose first three lines say the same but for the criterion, 4 in the first and 2
+-- in the second, with the same bytes behind them; or whose first three lines are both malformed
 pub record TextsDiffer (reading : Reading Settings) (text text′ : List ℕ) : Type 0 where
   pub four : head text ≡ readingUnder 4 reading
   pub two : head text′ ≡ readingUnder 2 reading
-  pub lengths : length text ≡ length text′
+  pub lengths : leb (length text) longestText ≡ leb (length text′) longestText

@@ -87,8 +87,8 @@ fn least_size(operand: u16, soft: &[i16], n: usize) -> bool
     operand <= least_of_all
 }
 
-// The size that criterion 4 sees at a position: at a frozen one, where it doesn't look, the largest number, which no
-// operand is above. Both are at hand, so that the loop around it chooses without a branch.
+// The size that criterion 4 compares at a position: that of the soft value, or at a frozen position, which it leaves
+// out, the largest number, which no operand is above. Both are computed first, so that the loop has no branch.
 fn information_size(kind: u8, value: i16) -> u16
     requires { ⌜ natAbs value ≤ largestCeiling ⌝ }
     ensures { λ r. ⌜ r ≡ byKind kind (natAbs value) (λ bit. 65535) ⌝ }

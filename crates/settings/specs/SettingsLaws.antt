@@ -136,12 +136,9 @@ module _ {s : Settings} (a : SettingsAccepted s) where
   pub operand-le : s .operand ≤ largestCeiling
   operand-le = fits-le (s .ceiling) (s .criterion) (s .operand) (a .ceiling-le) (a .operand)
 
-  -- that of criterion 2, a least size, and of criterion 3, a count of iterations
+  -- the operand of criterion 2, a least size
   pub operand-least : s .criterion ≡ 2 → (1 ≤ s .operand) × (s .operand ≤ s .ceiling)
   operand-least e = between-passed 1 (s .ceiling) (s .operand) (rw e at (a .operand))
-
-  pub operand-steady : s .criterion ≡ 3 → (1 ≤ s .operand) × (s .operand ≤ 8)
-  operand-steady e = between-passed 1 8 (s .operand) (rw e at (a .operand))
 
 -- ---- signs: a call with the signs of some LLRs turned has the same number
 

@@ -1,5 +1,5 @@
--- `least_information_size` meets its contract: the least size that criterion 4 sees among the first i is at least the
--- operand where the criterion holds of them.
+-- `least_information_size` meets its contract: the least of the sizes that criterion 4 compares among the first i is at
+-- least the operand where the criterion holds of them.
 use Prim.Native.Nat.{_≤_, _-_, zero-le}
 use mathlib.Core.Bool.{true}
 use mathlib.Core.Path.{_≡_, ap, _∙_}
