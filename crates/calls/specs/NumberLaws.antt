@@ -22,6 +22,7 @@ use Rattle.calls.specs.declared.Refusal.the-variants.{
   MessageBit,
   MalformedText,
   UnusableTally,
+  RadioNumber,
 }
 use Rattle.calls.specs.LentMemory.{unlessRefused}
 use Rattle.calls.specs.Numbers.{refusalNumber, check, firstRefusal, between}
@@ -43,6 +44,7 @@ refusal-number SampleNotFinite f = f 11 refl (lit< tt)
 refusal-number MessageBit f = f 12 refl (lit< tt)
 refusal-number MalformedText f = f 13 refl (lit< tt)
 refusal-number UnusableTally f = f 14 refl (lit< tt)
+refusal-number RadioNumber f = f 15 refl (lit< tt)
 
 pub refusal-digits : (r : Refusal) → refusalNumber r ≤ 99
 refusal-digits r = refusal-number r (λ n e h. omega arith)

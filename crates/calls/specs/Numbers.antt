@@ -20,6 +20,7 @@ use Rattle.calls.specs.declared.Refusal.the-variants.{
   MessageBit,
   MalformedText,
   UnusableTally,
+  RadioNumber,
 }
 use Rattle.calls.specs.declared.Answer.{Answer}
 use Rattle.calls.specs.declared.Answer.the-variants.{Done, Refused}
@@ -40,6 +41,7 @@ refusalNumber SampleNotFinite = 12
 refusalNumber MessageBit = 13
 refusalNumber MalformedText = 14
 refusalNumber UnusableTally = 15
+refusalNumber RadioNumber = 16
 
 -- the number of an answer; 0, which is no refusal's number, stands for an accepted call
 abbrev pub numberOf : Answer → ℕ

@@ -6,7 +6,7 @@ ghost use mathlib.Core.Bool.{_&&_};
 ghost use Prim.Native.Nat.{_≤_};
 ghost use lib.IntN.{natAbs};
 ghost use Rattle.calls.specs.Bounds.{largestCeiling};
-ghost use Rattle.calls.specs.Numbers.{numberOf};
+ghost use Rattle.calls.specs.Numbers.{refusalNumber, numberOf};
 
 // The largest m, ceiling and scale, as document 01 has them.
 pub const LARGEST_M: u32 = 10;
@@ -37,6 +37,7 @@ pub enum Refusal {
     MessageBit,
     MalformedText,
     UnusableTally,
+    RadioNumber,
 }
 
 // The answer of a call whose results all stand in lent memory.
@@ -45,29 +46,37 @@ pub enum Answer {
     Refused(Refusal),
 }
 
+// The number of a refusal.
+fn refusal_number(refusal: Refusal) -> u32
+    ensures { λ r. ⌜ r ≡ refusalNumber refusal ⌝ }
+{
+    match refusal {
+        Refusal::BlockLength => 1,
+        Refusal::Ceiling => 2,
+        Refusal::Scale => 3,
+        Refusal::Limit => 4,
+        Refusal::Criterion => 5,
+        Refusal::Operand => 6,
+        Refusal::ShortSlice => 7,
+        Refusal::MaskValue => 8,
+        Refusal::NoInformation => 9,
+        Refusal::LlrAboveCeiling => 10,
+        Refusal::ChannelFactor => 11,
+        Refusal::SampleNotFinite => 12,
+        Refusal::MessageBit => 13,
+        Refusal::MalformedText => 14,
+        Refusal::UnusableTally => 15,
+        Refusal::RadioNumber => 16,
+    }
+}
+
 // The number of an answer, for callers in other languages: 0, or the refusal's number.
 pub fn number(answer: Answer) -> u32
     ensures { λ r. ⌜ r ≡ numberOf answer ⌝ }
 {
     match answer {
         Answer::Done => 0,
-        Answer::Refused(refusal) => match refusal {
-            Refusal::BlockLength => 1,
-            Refusal::Ceiling => 2,
-            Refusal::Scale => 3,
-            Refusal::Limit => 4,
-            Refusal::Criterion => 5,
-            Refusal::Operand => 6,
-            Refusal::ShortSlice => 7,
-            Refusal::MaskValue => 8,
-            Refusal::NoInformation => 9,
-            Refusal::LlrAboveCeiling => 10,
-            Refusal::ChannelFactor => 11,
-            Refusal::SampleNotFinite => 12,
-            Refusal::MessageBit => 13,
-            Refusal::MalformedText => 14,
-            Refusal::UnusableTally => 15,
-        },
+        Answer::Refused(refusal) => refusal_number(refusal),
     }
 }
 
