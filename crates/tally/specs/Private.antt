@@ -1,6 +1,5 @@
--- How the code counts: the tally of one answer, added to the tally so far. A reader of the
--- contract of `decode` needs none of it.
-use Prim.Native.Nat.{_+_}
+-- How the code counts: the tally of one answer, which is added to the tally so far. A reader of the contract of `decode`
+-- needs none of it.
 use mathlib.Core.Bool.{cond}
 use lib.Dec.{eqb}
 use Rattle.decoder.specs.Decoder.{Result, refused, ended}
@@ -16,15 +15,4 @@ single (ended iteration reason) =
       «by_limit» = cond (eqb reason 2) 1 0;
       refusals = 0;
       iterations = iteration;
-    }
-
--- two tallies added, number by number
-abbrev pub plus : Tally → Tally → Tally
-plus t u =
-    record {
-      blocks = t .blocks + u .blocks;
-      «by_criterion» = t .«by_criterion» + u .«by_criterion»;
-      «by_limit» = t .«by_limit» + u .«by_limit»;
-      refusals = t .refusals + u .refusals;
-      iterations = t .iterations + u .iterations;
     }

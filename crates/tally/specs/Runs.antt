@@ -27,6 +27,17 @@ decoded c = decodeResult (c .settings) (c .mask) (c .llr) (c .slices)
 abbrev pub none : Tally
 none = record { blocks = 0; «by_criterion» = 0; «by_limit» = 0; refusals = 0; iterations = 0 }
 
+-- two tallies added, number by number
+abbrev pub plus : Tally → Tally → Tally
+plus t u =
+    record {
+      blocks = t .blocks + u .blocks;
+      «by_criterion» = t .«by_criterion» + u .«by_criterion»;
+      «by_limit» = t .«by_limit» + u .«by_limit»;
+      refusals = t .refusals + u .refusals;
+      iterations = t .iterations + u .iterations;
+    }
+
 -- the tally that a run of calls leaves, and their answers
 abbrev pub tallyAfter : Tally → List Call → Tally
 tallyAfter t [] = t

@@ -1,7 +1,7 @@
 -- Document 01, "The tally", and 15 of "Numbers by who causes them". Definitions only.
 use Prim.Native.Nat.{ℕ, zero, suc, _+_, _*_}
 use mathlib.Core.Path.{_≡_}
-use mathlib.Core.Bool.{cond}
+use mathlib.Core.Bool.{Bool, _&&_, cond}
 use mathlib.Core.List.{List}
 use lib.Dec.{ltb, eqb}
 use lib.IntN.{ℤ}
@@ -24,13 +24,16 @@ mostBlocks = 1000000
 abbrev pub mostIterations : ℕ
 mostIterations = 200
 
+-- whether its numbers can be counts: blocks are the sum of endings and refusals, and iterations are from the endings to
+-- 200 times them
+abbrev pub consistent : Tally → Bool
+consistent t =
+    eqb (t .blocks) (endings t + t .refusals) && between (endings t) (mostIterations * endings t) (t .iterations)
+
 -- 15: blocks at or above 1,000,000; or blocks not the sum of endings and refusals; or iterations below
 -- the endings or above 200 times them
 abbrev pub tallyNumber : Tally → ℕ
-tallyNumber t =
-    check (ltb (t .blocks) mostBlocks) 15
-    (check (eqb (t .blocks) (endings t + t .refusals)) 15
-    (check (between (endings t) (mostIterations * endings t) (t .iterations)) 15 0))
+tallyNumber t = check (ltb (t .blocks) mostBlocks) 15 (check (consistent t) 15 0)
 
 -- the tally with one answer of the decoder counted: a refusal is a block with no iterations, an ending counts by its
 -- own reason, 1 or 2

@@ -5,64 +5,83 @@ use mathlib.Core.Path.{_≡_, refl, sym, ap, _∙_}
 use mathlib.Core.Bool.{Bool, true, false, cond}
 use mathlib.Core.List.{List, [], _∷_, map}
 use native.Mathlib.Omega.{arith}
-use lib.Dec.{ltb, eqb}
+use lib.Dec.{ltb, eqb, lit<}
 use lib.ListN.{length}
 use borrow.Author.Tests.{ltb-true, eqb-true, lt-ltb, eq-eqb, ne-eqb, le-leb}
 use Rattle.calls.specs.Numbers.{check, between}
-use Rattle.calls.specs.NumberLaws.{check-passed, between-passed}
+use Rattle.calls.specs.NumberLaws.{check-passed, and-passed, between-passed}
 use Rattle.decoder.specs.Decoder.{Result, refused, ended}
 use Rattle.tally.specs.declared.Tally.{Tally}
-use Rattle.tally.specs.Tally.{endings, mostBlocks, mostIterations, tallyNumber, counted, answerBy, tallyBy}
-use Rattle.tally.specs.Runs.{Call, decoded, none, tallyAfter, answers, counts, others, countsOver}
-use Rattle.tally.specs.Private.{single, plus}
+use Rattle.tally.specs.Tally.{
+  endings,
+  mostBlocks,
+  mostIterations,
+  consistent,
+  tallyNumber,
+  counted,
+  answerBy,
+  tallyBy,
+}
+use Rattle.tally.specs.Runs.{Call, decoded, none, plus, tallyAfter, answers, counts, others, countsOver}
+use Rattle.tally.specs.Private.{single}
 use Rattle.decoder.specs.ResultLaws.{DecoderAnswer, decoder-answer}
 
 -- ---- 15
 
--- what 15 asks of a tally, as facts about its numbers
-pub record Usable (t : Tally) : Type 0 where
-  pub blocks-lt : t .blocks < mostBlocks
+-- what `consistent` and 15 ask of a tally, as facts about its numbers
+pub record Consistent (t : Tally) : Type 0 where
   pub blocks-sum : t .blocks ≡ endings t + t .refusals
   pub iterations-low : endings t ≤ t .iterations
   pub iterations-high : t .iterations ≤ mostIterations * endings t
 
-pub usable : (t : Tally) → tallyNumber t ≡ 0 → Usable t
-usable t h =
-    let blocks = check-passed _ 14 _ h in
-    let sum = check-passed _ 14 _ (blocks .1) in
-    let iterations =
-    between-passed (endings t) (mostIterations * endings t) (t .iterations) (check-passed _ 14 _ (sum .1) .0) in
+pub record Usable (t : Tally) : Type 0 where
+  pub blocks-lt : t .blocks < mostBlocks
+  pub fits : Consistent t
+
+pub consistent-facts : (t : Tally) → consistent t ≡ true → Consistent t
+consistent-facts t h =
+    let both = and-passed (eqb (t .blocks) (endings t + t .refusals)) _ h in
+    let iterations = between-passed (endings t) (mostIterations * endings t) (t .iterations) (both .1) in
     record {
-      blocks-lt = ltb-true (t .blocks) mostBlocks (blocks .0);
-      blocks-sum = eqb-true (t .blocks) (endings t + t .refusals) (sum .0);
+      blocks-sum = eqb-true (t .blocks) (endings t + t .refusals) (both .0);
       iterations-low = iterations .0;
       iterations-high = iterations .1;
     }
 
-pub usable-number : (t : Tally) → Usable t → tallyNumber t ≡ 0
-usable-number t u =
+pub facts-consistent : (t : Tally) → Consistent t → consistent t ≡ true
+facts-consistent t f =
     simp (
-      lt-ltb (t .blocks) mostBlocks (u .blocks-lt),
-      eq-eqb (t .blocks) (endings t + t .refusals) (u .blocks-sum),
-      le-leb (endings t) (t .iterations) (u .iterations-low),
-      le-leb (t .iterations) (mostIterations * endings t) (u .iterations-high),
+      eq-eqb (t .blocks) (endings t + t .refusals) (f .blocks-sum),
+      le-leb (endings t) (t .iterations) (f .iterations-low),
+      le-leb (t .iterations) (mostIterations * endings t) (f .iterations-high),
     )
 
+pub inconsistent : (t : Tally) → (Consistent t → ⊥) → consistent t ≡ false
+inconsistent t h = split (consistent t) refl
+  where
+    split : (test : Bool) → consistent t ≡ test → test ≡ false
+    split true e = absurd (h (consistent-facts t e))
+    split false e = refl
+
+pub usable : (t : Tally) → tallyNumber t ≡ 0 → Usable t
+usable t h =
+    let blocks = check-passed _ 14 _ h in
+    record {
+      blocks-lt = ltb-true (t .blocks) mostBlocks (blocks .0);
+      fits = consistent-facts t (check-passed _ 14 _ (blocks .1) .0);
+    }
+
+pub usable-number : (t : Tally) → Usable t → tallyNumber t ≡ 0
+usable-number t u = simp (lt-ltb (t .blocks) mostBlocks (u .blocks-lt), facts-consistent t (u .fits))
+
 -- the number is 0 or 15
-three-tests : (a b c : Bool) → (check a 15 (check b 15 (check c 15 0)) ≡ 0 → ⊥)
-    → check a 15 (check b 15 (check c 15 0)) ≡ 15
-three-tests true true true h = absurd (h refl)
-three-tests true true false h = refl
-three-tests true false c h = refl
-three-tests false b c h = refl
+two-tests : (a b : Bool) → (check a 15 (check b 15 0) ≡ 0 → ⊥) → check a 15 (check b 15 0) ≡ 15
+two-tests true true h = absurd (h refl)
+two-tests true false h = refl
+two-tests false b h = refl
 
 pub refused-15 : (t : Tally) → (tallyNumber t ≡ 0 → ⊥) → tallyNumber t ≡ 15
-refused-15 t h =
-    three-tests
-    (ltb (t .blocks) mostBlocks)
-    (eqb (t .blocks) (endings t + t .refusals))
-    (between (endings t) (mostIterations * endings t) (t .iterations))
-    h
+refused-15 t h = two-tests (ltb (t .blocks) mostBlocks) (consistent t) h
 
 pub unusable-number : (t : Tally) → (Usable t → ⊥) → tallyNumber t ≡ 15
 unusable-number t h = refused-15 t (λ e. h (usable t e))
@@ -70,10 +89,10 @@ unusable-number t h = refused-15 t (λ e. h (usable t e))
 -- ---- one block more
 
 -- two tallies are equal by their numbers
-same : {t u : Tally} → t .blocks ≡ u .blocks → t .«by_criterion» ≡ u .«by_criterion» → t .«by_limit» ≡ u .«by_limit»
+pub same-tally : {t u : Tally} → t .blocks ≡ u .blocks → t .«by_criterion» ≡ u .«by_criterion» → t .«by_limit» ≡ u .«by_limit»
     → t .refusals ≡ u .refusals
     → t .iterations ≡ u .iterations → t ≡ u
-same blocks criterion limit refusals iterations i =
+same-tally blocks criterion limit refusals iterations i =
     record {
       blocks = blocks i;
       «by_criterion» = criterion i;
@@ -82,33 +101,39 @@ same blocks criterion limit refusals iterations i =
       iterations = iterations i;
     }
 
-pub single-usable : (r : Result) → DecoderAnswer r → Usable (single r)
-single-usable (refused number) d =
-    record { blocks-lt = omega arith; blocks-sum = refl; iterations-low = omega arith; iterations-high = omega arith }
-single-usable (ended iteration zero) d = absurd (omega arith)
-single-usable (ended iteration (suc zero)) d =
-    record { blocks-lt = omega arith; blocks-sum = refl; iterations-low = omega arith; iterations-high = omega arith }
-single-usable (ended iteration (suc (suc zero))) d =
-    record { blocks-lt = omega arith; blocks-sum = refl; iterations-low = omega arith; iterations-high = omega arith }
-single-usable (ended iteration (suc (suc (suc n)))) d = absurd (omega arith)
+pub single-consistent : (r : Result) → DecoderAnswer r → Consistent (single r)
+single-consistent (refused number) d =
+    record { blocks-sum = refl; iterations-low = omega arith; iterations-high = omega arith }
+single-consistent (ended iteration zero) d = absurd (omega arith)
+single-consistent (ended iteration (suc zero)) d =
+    record { blocks-sum = refl; iterations-low = omega arith; iterations-high = omega arith }
+single-consistent (ended iteration (suc (suc zero))) d =
+    record { blocks-sum = refl; iterations-low = omega arith; iterations-high = omega arith }
+single-consistent (ended iteration (suc (suc (suc n)))) d = absurd (omega arith)
 
-plus-usable : {t u : Tally} → Usable t → Usable u → t .blocks + u .blocks < mostBlocks → Usable (plus t u)
-plus-usable p q few =
-    record { blocks-lt = few; blocks-sum = omega arith; iterations-low = omega arith; iterations-high = omega arith }
-
--- counting an answer is adding the tally of one block
-pub counted-plus : (t : Tally) (r : Result) → DecoderAnswer r → counted t r ≡ plus t (single r)
-counted-plus t (refused number) d = same refl (omega arith) (omega arith) refl (omega arith)
-counted-plus t (ended iteration zero) d = absurd (omega arith)
-counted-plus t (ended iteration (suc zero)) d = same refl refl (omega arith) (omega arith) refl
-counted-plus t (ended iteration (suc (suc zero))) d = same refl (omega arith) refl (omega arith) refl
-counted-plus t (ended iteration (suc (suc (suc n)))) d = absurd (omega arith)
-
-single-block : (r : Result) → single r .blocks ≡ 1
+pub single-block : (r : Result) → single r .blocks ≡ 1
 single-block (refused number) = refl
 single-block (ended iteration reason) = refl
 
-decoded-answer : (c : Call) → DecoderAnswer (decoded c)
+pub single-usable : (r : Result) → DecoderAnswer r → Usable (single r)
+single-usable r d = record { blocks-lt = rw (single-block r) (lit< tt); fits = single-consistent r d }
+
+pub plus-consistent : {t u : Tally} → Consistent t → Consistent u → Consistent (plus t u)
+plus-consistent p q =
+    record { blocks-sum = omega arith; iterations-low = omega arith; iterations-high = omega arith }
+
+plus-usable : {t u : Tally} → Usable t → Usable u → t .blocks + u .blocks < mostBlocks → Usable (plus t u)
+plus-usable p q few = record { blocks-lt = few; fits = plus-consistent (p .fits) (q .fits) }
+
+-- counting an answer is adding the tally of one block
+pub counted-plus : (t : Tally) (r : Result) → DecoderAnswer r → counted t r ≡ plus t (single r)
+counted-plus t (refused number) d = same-tally refl (omega arith) (omega arith) refl (omega arith)
+counted-plus t (ended iteration zero) d = absurd (omega arith)
+counted-plus t (ended iteration (suc zero)) d = same-tally refl refl (omega arith) (omega arith) refl
+counted-plus t (ended iteration (suc (suc zero))) d = same-tally refl (omega arith) refl (omega arith) refl
+counted-plus t (ended iteration (suc (suc (suc n)))) d = absurd (omega arith)
+
+pub decoded-answer : (c : Call) → DecoderAnswer (decoded c)
 decoded-answer c = decoder-answer (c .settings) (c .mask) (c .llr) (c .slices)
 
 -- 15, "iterations below the endings or above 200 times them", and the sum: they stay so when the answer of a call is
@@ -121,7 +146,7 @@ counted-usable t c h few =
     ∙ usable-number (plus t (single (decoded c)))
     (plus-usable (usable t h) (single-usable (decoded c) d) (rw (single-block (decoded c)) few))
 
-blocks-counted : (t : Tally) (c : Call) → counted t (decoded c) .blocks ≡ t .blocks + 1
+pub blocks-counted : (t : Tally) (c : Call) → counted t (decoded c) .blocks ≡ t .blocks + 1
 blocks-counted t c =
     ap (λ (u : Tally). u .blocks) (counted-plus t (decoded c) (decoded-answer c)) ∙ rw (single-block (decoded c))
 
@@ -155,12 +180,12 @@ run-answered calls few = answered-from calls none refl (omega arith)
 
 counted-first : (t : Tally) (r : Result) (rs : List Result) → DecoderAnswer r
     → plus (counted t r) (countsOver rs) ≡ plus t (countsOver (r ∷ rs))
-counted-first t (refused number) rs d = same (omega arith) (omega arith) (omega arith) (omega arith) (omega arith)
+counted-first t (refused number) rs d = same-tally (omega arith) (omega arith) (omega arith) (omega arith) (omega arith)
 counted-first t (ended iteration zero) rs d = absurd (omega arith)
 counted-first t (ended iteration (suc zero)) rs d =
-    same (omega arith) (omega arith) (omega arith) (omega arith) (omega arith)
+    same-tally (omega arith) (omega arith) (omega arith) (omega arith) (omega arith)
 counted-first t (ended iteration (suc (suc zero))) rs d =
-    same (omega arith) (omega arith) (omega arith) (omega arith) (omega arith)
+    same-tally (omega arith) (omega arith) (omega arith) (omega arith) (omega arith)
 counted-first t (ended iteration (suc (suc (suc n)))) rs d = absurd (omega arith)
 
 -- the decoder's own answer counts
@@ -169,7 +194,7 @@ answer-counts (refused number) d = rw (ne-eqb number 15 (λ e. omega arith))
 answer-counts (ended iteration reason) d = refl
 
 counted-after : (calls : List Call) (t : Tally) → tallyAfter t calls ≡ plus t (countsOver (others (answers t calls)))
-counted-after [] t = same (omega arith) (omega arith) (omega arith) (omega arith) (omega arith)
+counted-after [] t = same-tally (omega arith) (omega arith) (omega arith) (omega arith) (omega arith)
 counted-after (c ∷ calls) t = by-number (tallyNumber t) refl (λ u. counted-after calls u)
   where
     by-number : (number : ℕ) → tallyNumber t ≡ number
@@ -190,4 +215,4 @@ counted-after (c ∷ calls) t = by-number (tallyNumber t) refl (λ u. counted-af
 -- "After any run of other calls from five zeros, each number is the count over those calls"
 pub tally-counts : (calls : List Call) → tallyAfter none calls ≡ countsOver (others (answers none calls))
 tally-counts calls =
-    counted-after calls none ∙ same (omega arith) (omega arith) (omega arith) (omega arith) (omega arith)
+    counted-after calls none ∙ same-tally (omega arith) (omega arith) (omega arith) (omega arith) (omega arith)

@@ -4,9 +4,9 @@
 ghost use mathlib.Core.Path.{_≡_};
 ghost use Rattle.decoder.specs.Decoder.{resultOf};
 ghost use Rattle.settings.specs.Slices.{slices};
-ghost use Rattle.tally.specs.Tally.{tallyNumber, counted, TalliedDecode};
-ghost use Rattle.tally.specs.Runs.{none};
-ghost use Rattle.tally.specs.Private.{single, plus};
+ghost use Rattle.tally.specs.Tally.{consistent, tallyNumber, counted, TalliedDecode};
+ghost use Rattle.tally.specs.Runs.{none, plus};
+ghost use Rattle.tally.specs.Private.{single};
 ghost use Rattle.decoder.specs.ResultLaws.{DecoderAnswer};
 ghost use Rattle.tally.specs.TallyLaws.{Usable};
 use calls::Refusal;
@@ -15,7 +15,7 @@ use decoder::Reason;
 use settings::Settings;
 
 // A tally takes fewer blocks than this, and its own test allows so many iterations for each ending.
-const MOST_BLOCKS: u64 = 1000000;
+pub const MOST_BLOCKS: u32 = 1000000;
 
 const MOST_ITERATIONS: u64 = 200;
 
@@ -48,24 +48,34 @@ impl Tally {
         }
     }
 
-    // 15 where the tally is refused, else 0. At 64 bits no sum of its fields wraps, whatever they hold.
-    fn number(self) -> u32
-        ensures { λ r. ⌜ r ≡ tallyNumber self ⌝ }
+    // Whether its numbers can be counts. At 64 bits no sum of its fields wraps, whatever they hold.
+    pub fn consistent(self) -> bool
+        ensures { λ r. ⌜ r ≡ consistent self ⌝ }
     {
         let blocks = self.blocks as u64;
         let endings = self.by_criterion as u64 + self.by_limit as u64;
         let refusals = self.refusals as u64;
         let iterations = self.iterations as u64;
-        if MOST_BLOCKS <= blocks {
-            return 15;
-        }
         if blocks != endings + refusals {
-            return 15;
+            return false;
         }
         if iterations < endings {
-            return 15;
+            return false;
         }
         if MOST_ITERATIONS * endings < iterations {
+            return false;
+        }
+        true
+    }
+
+    // 15 where the tally is refused, else 0.
+    fn number(self) -> u32
+        ensures { λ r. ⌜ r ≡ tallyNumber self ⌝ }
+    {
+        if MOST_BLOCKS <= self.blocks {
+            return 15;
+        }
+        if !self.consistent() {
             return 15;
         }
         0

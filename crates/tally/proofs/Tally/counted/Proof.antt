@@ -2,7 +2,7 @@
 use mathlib.Core.Path.{sym, ap, _∙_}
 use borrow.Author.Needs.{needs}
 use Rattle.decoder.specs.Decoder.{resultOf}
-use Rattle.tally.specs.Private.{plus}
+use Rattle.tally.specs.Runs.{plus}
 use Rattle.tally.specs.TallyLaws.{usable, single-usable, counted-plus}
 use Rattle.tally.proofs.Tally.counted.Statement.{statement}
 use Rattle.tally.proofs.Tally.counted.Tie as tie
