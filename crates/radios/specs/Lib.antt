@@ -1,0 +1,2 @@
+pub mod Radios
+pub mod Runs
