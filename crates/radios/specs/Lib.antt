@@ -1,2 +1,4 @@
 pub mod Radios
 pub mod Runs
+pub mod RadioLaws
+pub mod SumLaws

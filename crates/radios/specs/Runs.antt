@@ -9,7 +9,7 @@ use Rattle.decoder.specs.Decoder.{Result}
 use Rattle.tally.specs.declared.Tally.{Tally}
 use Rattle.tally.specs.Tally.{answerBy}
 use Rattle.tally.specs.Runs.{Call, decoded, none, plus}
-use Rattle.radios.specs.Radios.{radioCount, radioCallNumber, talliesOf}
+use Rattle.radios.specs.Radios.{radioCount, radioNumber, radioCallNumber, talliesOf}
 
 -- what a call is handed beside the tallies
 pub record RadioCall : Type 0 where
@@ -26,6 +26,10 @@ talliesBy tallies c = talliesOf (c .radio) tallies (decoded (c .call))
 
 abbrev pub answerFor : List Tally → RadioCall → Result
 answerFor tallies c = answerBy (radioCallNumber (c .radio) tallies) (decoded (c .call))
+
+-- its answer where 15 doesn't refuse it: 16, or the decoder's
+abbrev pub answerUntallied : RadioCall → Result
+answerUntallied c = answerBy (radioNumber (c .radio)) (decoded (c .call))
 
 -- those of a run of calls
 abbrev pub talliesAfter : List Tally → List RadioCall → List Tally
