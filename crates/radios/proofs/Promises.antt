@@ -1,32 +1,22 @@
 -- The promise of a call for a radio from its two ways: refused with 16, and decoded for the tally of the radio.
-use Prim.Native.Nat.{ℕ, zero, suc}
-use mathlib.Core.Path.{_≡_, refl, _∙_}
+use Prim.Native.Nat.{ℕ}
+use mathlib.Core.Path.{_≡_}
 use mathlib.Core.Bool.{true, false}
 use mathlib.Core.List.{List}
 use lib.Dec.{ltb}
 use lib.IntN.{ℤ}
 use lib.ListN.{set}
-use lib.Seq.{set-getD}
 use Rattle.calls.specs.declared.Refusal.the-variants.{RadioNumber}
-use Rattle.calls.specs.LentMemory.{unlessRefused}
 use Rattle.settings.specs.declared.Settings.{Settings}
 use Rattle.settings.specs.Slices.{Slices}
 use Rattle.decoder.specs.declared.Outcome.the-variants.{Refused}
-use Rattle.decoder.specs.Decoder.{Result, decodeResult}
+use Rattle.decoder.specs.Decoder.{decodeResult}
 use Rattle.tally.specs.declared.Tallied.{Tallied}
-use Rattle.tally.specs.Tally.{tallyNumber, counted, tallyBy, TalliedDecode}
-use Rattle.tally.specs.Runs.{none}
-use Rattle.tally.specs.declared.Tally.{Tally}
+use Rattle.tally.specs.Tally.{tallyNumber, TalliedDecode}
 use Rattle.radios.specs.declared.Radios.{Radios}
 use Rattle.radios.specs.declared.RadioTallied.{RadioTallied}
 use Rattle.radios.specs.Radios.{radioCount, tallyOf, RadioDecode}
-
--- a tally stored in its own place leaves the tallies as they were
-stored : (number radio : ℕ) (tallies : List Tally) (r : Result)
-    → set tallies radio (tallyBy number (tallyOf radio tallies) r)
-    ≡ unlessRefused number (set tallies radio (counted (tallyOf radio tallies) r)) tallies
-stored zero radio tallies r = refl
-stored (suc number) radio tallies r = set-getD tallies radio none
+use Rattle.radios.specs.RadioLaws.{own-stored}
 
 module _ (radios : Radios) (radio : ℕ) (s : Settings) (mask : List ℕ) (llr : List ℤ) (before : Slices) where
   pub radio-refused : ltb radio radioCount ≡ false
@@ -41,6 +31,6 @@ module _ (radios : Radios) (radio : ℕ) (s : Settings) (mask : List ℕ) (llr :
     answer = rw (h, same) (d .answer);
     tallies-are =
         rw (h, kept, d .tally-is)
-        (stored (tallyNumber (tallyOf radio (radios .tallies))) radio (radios .tallies) (decodeResult s mask llr before));
+        (own-stored (tallyNumber (tallyOf radio (radios .tallies))) radio (radios .tallies) (decodeResult s mask llr before));
     slices = rw h (d .slices);
   }

@@ -8,7 +8,7 @@ use native.Mathlib.Omega.{arith}
 use lib.Dec.{ltb, eqb}
 use lib.IntN.{ℤ}
 use lib.ListN.{length, getD, set, replicate, length-set, getD-replicate}
-use lib.Seq.{getD-set-same, getD-set-other}
+use lib.Seq.{getD-set-same, getD-set-other, set-getD}
 use borrow.Author.Tests.{ltb-true, ltb-false, eqb-true, eqb-false, lt-ltb, le-ltb}
 use Rattle.calls.specs.Numbers.{check, firstRefusal}
 use Rattle.calls.specs.LentMemory.{unlessRefused}
@@ -23,7 +23,7 @@ use Rattle.radios.specs.declared.Radios.{Radios}
 use Rattle.radios.specs.declared.RadioTallied.{RadioTallied}
 use Rattle.radios.specs.Radios.{radioCount, radioNumber, tallyOf, radioCallNumber, talliesOf, RadioDecode}
 use Rattle.radios.specs.Runs.{
-  RadioCall,
+  CallFor,
   noBlocks,
   talliesBy,
   answerFor,
@@ -32,6 +32,13 @@ use Rattle.radios.specs.Runs.{
 }
 
 -- ---- one call
+
+-- the tally that a call of one tally leaves, stored in its place, leaves what a call for the radio does
+pub own-stored : (number radio : ℕ) (tallies : List Tally) (r : Result)
+    → set tallies radio (tallyBy number (tallyOf radio tallies) r)
+    ≡ unlessRefused number (set tallies radio (counted (tallyOf radio tallies) r)) tallies
+own-stored zero radio tallies r = refl
+own-stored (suc number) radio tallies r = set-getD tallies radio none
 
 module _ (radio : ℕ) (tallies : List Tally) (r : Result) where
   abbrev own : Tally
@@ -80,18 +87,18 @@ others-unchanged {radios} {radio} {s} {mask} {llr} {before} d other ne =
 -- ---- the calls made for one radio
 
 -- they, without the others
-abbrev callsFor : ℕ → List RadioCall → List Call
+abbrev callsFor : ℕ → List CallFor → List Call
 callsFor radio [] = []
 callsFor radio (c ∷ calls) = cond (eqb (c .radio) radio) (c .call ∷ callsFor radio calls) (callsFor radio calls)
 
 -- the tally of a radio after a run, and the answers to its calls, are those of a run of one tally over some calls
-record OwnRun (radio : ℕ) (tallies : List Tally) (calls : List RadioCall) (its : List Call) : Type 0 where
+record OwnRun (radio : ℕ) (tallies : List Tally) (calls : List CallFor) (its : List Call) : Type 0 where
   pub tally-is : tallyOf radio (talliesAfter tallies calls) ≡ tallyAfter (tallyOf radio tallies) its
   pub answers-are : answersTo radio tallies calls ≡ answers (tallyOf radio tallies) its
 
 -- namely over the calls made for it
 module _ (radio : ℕ) (h : radio < radioCount) where
-  module _ (tallies : List Tally) (all : length tallies ≡ radioCount) (c : RadioCall) where
+  module _ (tallies : List Tally) (all : length tallies ≡ radioCount) (c : CallFor) where
     own-step : c .radio ≡ radio
         → tallyOf radio (talliesBy tallies c)
         ≡ tallyBy (tallyNumber (tallyOf radio tallies)) (tallyOf radio tallies) (decoded (c .call))
@@ -107,7 +114,7 @@ module _ (radio : ℕ) (h : radio < radioCount) where
     other-step : (c .radio ≡ radio → ⊥) → tallyOf radio (talliesBy tallies c) ≡ tallyOf radio tallies
     other-step ne = others-kept (c .radio) tallies (decoded (c .call)) radio (λ e. ne (sym e))
 
-  own-run : (calls : List RadioCall) (tallies : List Tally) → length tallies ≡ radioCount
+  own-run : (calls : List CallFor) (tallies : List Tally) → length tallies ≡ radioCount
       → OwnRun radio tallies calls (callsFor radio calls)
   own-run [] tallies all = record { tally-is = refl; answers-are = refl }
   own-run (c ∷ calls) tallies all =
@@ -138,7 +145,7 @@ module _ (radio : ℕ) (h : radio < radioCount) where
 
 -- "After any run of calls from zeros" each radio's five numbers are the counts over the calls made for it: those
 -- refused with 15 are left out, and 16 refuses none of them
-pub radio-counts : (radio : ℕ) → radio < radioCount → (calls : List RadioCall)
+pub radio-counts : (radio : ℕ) → radio < radioCount → (calls : List CallFor)
     → tallyOf radio (talliesAfter noBlocks calls) ≡ countsOver (others (answersTo radio noBlocks calls))
 radio-counts radio h calls =
     let own = own-run radio h calls noBlocks refl in

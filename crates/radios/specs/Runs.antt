@@ -11,8 +11,8 @@ use Rattle.tally.specs.Tally.{answerBy}
 use Rattle.tally.specs.Runs.{Call, decoded, none, plus}
 use Rattle.radios.specs.Radios.{radioCount, radioNumber, radioCallNumber, talliesOf}
 
--- what a call is handed beside the tallies
-pub record RadioCall : Type 0 where
+-- a call for a radio: what it is handed beside the tallies
+pub record CallFor : Type 0 where
   pub radio : ℕ
   pub call : Call
 
@@ -21,36 +21,36 @@ abbrev pub noBlocks : List Tally
 noBlocks = replicate radioCount none
 
 -- the tallies that a call leaves, and its answer
-abbrev pub talliesBy : List Tally → RadioCall → List Tally
+abbrev pub talliesBy : List Tally → CallFor → List Tally
 talliesBy tallies c = talliesOf (c .radio) tallies (decoded (c .call))
 
-abbrev pub answerFor : List Tally → RadioCall → Result
+abbrev pub answerFor : List Tally → CallFor → Result
 answerFor tallies c = answerBy (radioCallNumber (c .radio) tallies) (decoded (c .call))
 
 -- its answer where 15 doesn't refuse it: 16, or the decoder's
-abbrev pub answerUntallied : RadioCall → Result
+abbrev pub answerUntallied : CallFor → Result
 answerUntallied c = answerBy (radioNumber (c .radio)) (decoded (c .call))
 
 -- those of a run of calls
-abbrev pub talliesAfter : List Tally → List RadioCall → List Tally
+abbrev pub talliesAfter : List Tally → List CallFor → List Tally
 talliesAfter tallies [] = tallies
 talliesAfter tallies (c ∷ calls) = talliesAfter (talliesBy tallies c) calls
 
-abbrev pub radioAnswers : List Tally → List RadioCall → List Result
+abbrev pub radioAnswers : List Tally → List CallFor → List Result
 radioAnswers tallies [] = []
 radioAnswers tallies (c ∷ calls) = answerFor tallies c ∷ radioAnswers (talliesBy tallies c) calls
 
 -- ---- the calls made for one radio, and the calls not refused with 16
 
 -- the answers of the calls made for a radio
-abbrev pub answersTo : ℕ → List Tally → List RadioCall → List Result
+abbrev pub answersTo : ℕ → List Tally → List CallFor → List Result
 answersTo radio tallies [] = []
 answersTo radio tallies (c ∷ calls) =
     let later = answersTo radio (talliesBy tallies c) calls in
     cond (eqb (c .radio) radio) (answerFor tallies c ∷ later) later
 
 -- the calls of some radio that there is
-abbrev pub served : List RadioCall → List Call
+abbrev pub served : List CallFor → List Call
 served [] = []
 served (c ∷ calls) = cond (ltb (c .radio) radioCount) (c .call ∷ served calls) (served calls)
 

@@ -30,7 +30,7 @@ use Rattle.tally.specs.TallyLaws.{
 use Rattle.radios.specs.Radios.{radioCount, radioNumber, tallyOf, radioCallNumber, talliesOf}
 use Rattle.radios.specs.RadioLaws.{others-kept, tallies-length, own-number, own-counted}
 use Rattle.radios.specs.Runs.{
-  RadioCall,
+  CallFor,
   noBlocks,
   talliesBy,
   answerFor,
@@ -103,7 +103,7 @@ usable-below t fits few = usable-number t (record { blocks-lt = few; fits = fits
 
 -- ---- one call, of tallies that could be counts
 
-module _ (tallies : List Tally) (c : RadioCall) where
+module _ (tallies : List Tally) (c : CallFor) where
   abbrev own : Tally
   own = tallyOf (c .radio) tallies
 
@@ -179,7 +179,7 @@ module _ (tallies : List Tally) (c : RadioCall) where
 
 -- ---- a run of calls
 
-module _ (c : RadioCall) (calls : List RadioCall) where
+module _ (c : CallFor) (calls : List CallFor) where
   served-known : ltb (c .radio) radioCount ≡ true → served (c ∷ calls) ≡ c .call ∷ served calls
   served-known h = rw h
 
@@ -195,7 +195,7 @@ module _ (c : RadioCall) (calls : List RadioCall) where
       split false = omega arith
 
 -- blocks are never taken back, and each call brings one at most
-blocks-between : (calls : List RadioCall) (tallies : List Tally) → length tallies ≡ radioCount
+blocks-between : (calls : List CallFor) (tallies : List Tally) → length tallies ≡ radioCount
     → (sumOver tallies .blocks ≤ sumOver (talliesAfter tallies calls) .blocks) ×
     (sumOver (talliesAfter tallies calls) .blocks ≤ sumOver tallies .blocks + length (served calls))
 blocks-between [] tallies all = (omega arith, omega arith)
@@ -205,7 +205,7 @@ blocks-between (c ∷ calls) tallies all =
     (omega (arith, later .0, now .0), omega (arith, later .1, now .1, served-length c calls))
 
 -- from tallies that could be counts
-sum-from : (calls : List RadioCall) (tallies : List Tally) → length tallies ≡ radioCount → AllConsistent tallies
+sum-from : (calls : List CallFor) (tallies : List Tally) → length tallies ≡ radioCount → AllConsistent tallies
     → sumOver (talliesAfter tallies calls) .blocks ≤ mostBlocks
     → sumOver (talliesAfter tallies calls) ≡ tallyAfter (sumOver tallies) (served calls)
 sum-from [] tallies all each few = refl
@@ -230,14 +230,14 @@ sum-from (c ∷ calls) tallies all each few =
 
 -- "From zeros and up to 1,000,000 blocks in all, the sum over radios is what the single tally would have counted, calls
 -- refused with 16 left out"
-pub radios-sum : (calls : List RadioCall) → sumOver (talliesAfter noBlocks calls) .blocks ≤ mostBlocks
+pub radios-sum : (calls : List CallFor) → sumOver (talliesAfter noBlocks calls) .blocks ≤ mostBlocks
     → sumOver (talliesAfter noBlocks calls) ≡ tallyAfter none (served calls)
 radios-sum calls few =
     sum-from calls noBlocks refl (zeros-consistent radioCount) few
     ∙ ap (λ (t : Tally). tallyAfter t (served calls)) (zeros-sum radioCount)
 
 -- so it is after up to 1,000,000 calls that 16 doesn't refuse
-pub radios-sum-of-calls : (calls : List RadioCall) → length (served calls) ≤ mostBlocks
+pub radios-sum-of-calls : (calls : List CallFor) → length (served calls) ≤ mostBlocks
     → sumOver (talliesAfter noBlocks calls) ≡ tallyAfter none (served calls)
 radios-sum-of-calls calls few =
     radios-sum calls
@@ -245,7 +245,7 @@ radios-sum-of-calls calls few =
 
 -- ---- 15
 
-answered-from : (calls : List RadioCall) (tallies : List Tally) → length tallies ≡ radioCount → AllConsistent tallies
+answered-from : (calls : List CallFor) (tallies : List Tally) → length tallies ≡ radioCount → AllConsistent tallies
     → sumOver tallies .blocks + length (served calls) ≤ mostBlocks
     → radioAnswers tallies calls ≡ map answerUntallied calls
 answered-from [] tallies all each few = refl
@@ -264,7 +264,7 @@ answered-from (c ∷ calls) tallies all each few =
 
 -- of the first 1,000,000 calls from zeros that 16 doesn't refuse none is refused with 15: each answer is 16 or the
 -- decoder's
-pub radios-answered : (calls : List RadioCall) → length (served calls) ≤ mostBlocks
+pub radios-answered : (calls : List CallFor) → length (served calls) ≤ mostBlocks
     → radioAnswers noBlocks calls ≡ map answerUntallied calls
 radios-answered calls few =
     answered-from calls noBlocks refl (zeros-consistent radioCount)

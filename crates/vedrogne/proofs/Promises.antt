@@ -1,30 +1,42 @@
--- The promise of a decoding call from its three ways: refused before the decoder is called,
--- decoded, and decoded with a tally.
-use Prim.Native.Nat.{ℕ, suc}
-use mathlib.Core.Path.{_≡_, subst, ap, _∙_}
-use mathlib.Core.List.{List}
+-- The promise of a decoding call from its ways: refused before the decoder is called, decoded, and decoded for the
+-- tally of a radio.
+use Prim.Native.Nat.{ℕ, suc, _+_, _*_, _≤_, _<_}
+use mathlib.Core.Path.{_≡_, subst, sym, ap, _∙_}
+use mathlib.Core.Bool.{true, false}
+use mathlib.Core.List.{List, _++_}
+use borrow.Author.Tests.{ltb-true}
+use lib.Dec.{ltb}
 use lib.IntN.{ℤ}
+use lib.ListN.{length, set, take, drop}
 use Rattle.settings.specs.declared.Settings.{Settings}
 use Rattle.settings.specs.Slices.{Slices}
 use Rattle.decoder.specs.declared.Outcome.{Outcome}
 use Rattle.decoder.specs.Decoder.{Result, resultOf, Decoded}
 use Rattle.tally.specs.declared.Tally.{Tally}
 use Rattle.tally.specs.declared.Tallied.{Tallied}
-use Rattle.tally.specs.Tally.{tallyNumber, TalliedDecode}
+use Rattle.tally.specs.Tally.{tallyNumber, tallyBy, TalliedDecode}
+use Rattle.radios.specs.Radios.{radioCount, tallyOf, radioCallNumber, talliesOf}
+use Rattle.radios.specs.RadioLaws.{own-stored}
 use Rattle.vedrogne.specs.Interface.{
+  tallyLength,
+  talliesLength,
   settingsIn,
   tallyIn,
-  tallyOut,
-  talliedNumber,
+  tallyList,
+  talliesIn,
+  talliesOut,
+  listsNumber,
+  radioFirstNumber,
+  talliesListAfter,
   resultNumber,
   iterationsOut,
   reasonOut,
   Lent,
   lent,
   DecodeCall,
-  TalliedCall,
+  RadioCall,
 }
-use Rattle.vedrogne.specs.InterfaceLaws.{tally-by-number}
+use Rattle.vedrogne.specs.InterfaceLaws.{list-kept, own-read, own-written}
 
 -- what `result_out` promises of an answer
 abbrev pub ResultOut : Result → ℕ → ℕ → ℕ → ℕ → ℕ → Type 0
@@ -50,31 +62,63 @@ module _ (first : ℕ) (settings mask : List ℕ) (llr : List ℤ) (before : Len
         lent-is = lent-same (d .slices ∙ rw h) (out .1 .0 ∙ rw (h, d .answer)) (out .1 .1 ∙ rw (h, d .answer));
       }
 
-module _ (tally settings mask : List ℕ) (llr : List ℤ) (before : Lent) where
-  pub tallied-refused : {number : ℕ} → talliedNumber tally settings ≡ suc number
-      → TalliedCall tally tally settings mask llr before before (suc number)
-  tallied-refused h =
-      record { call = call-refused (talliedNumber tally settings) settings mask llr before h; tally-is = rw h }
+module _ (radio : ℕ) (tallies settings mask : List ℕ) (llr : List ℤ) (before : Lent) where
+  -- 7, for either list
+  pub lists-refused : {number : ℕ} → listsNumber tallies settings ≡ suc number
+      → RadioCall radio tallies tallies settings mask llr before before (suc number)
+  lists-refused h = record {
+    call = call-refused (radioFirstNumber radio tallies settings) settings mask llr before (rw h);
+    tallies-are = rw h;
+  }
 
-  module _ {tally′ : List ℕ} {x : Slices} {iterations reason r : ℕ} {o : Tallied}
-      (long : talliedNumber tally settings ≡ tallyNumber (tallyIn tally)) (stored : tally′ ≡ tallyOut (o .tally) tally)
-      (out : ResultOut (resultOf (o .outcome)) (before .iterations) (before .reason) iterations reason r) where
-    counted-call : TalliedDecode (tallyIn tally) (settingsIn settings) mask llr (before .slices) x o
-        → TalliedCall tally tally′ settings mask llr before (lent x iterations reason) r
-    counted-call d = record {
-      call = record {
-        number-is = out .0 ∙ rw (long, d .answer);
-        lent-is = lent-same (d .slices ∙ rw long) (out .1 .0 ∙ rw (long, d .answer)) (out .1 .1 ∙ rw (long, d .answer));
-      };
-      tally-is =
-          stored ∙ ap (λ (t : Tally). tallyOut t tally) (d .tally-is)
-          ∙ tally-by-number (tallyNumber (tallyIn tally)) tally _ ∙ rw long;
+  module _ (lists : listsNumber tallies settings ≡ 0) (long : talliesLength ≤ length tallies) where
+    -- 16
+    pub radio-refused : ltb radio radioCount ≡ false
+        → RadioCall radio tallies tallies settings mask llr before before 16
+    radio-refused h = record {
+      call = call-refused (radioFirstNumber radio tallies settings) settings mask llr before (rw (lists, h));
+      tallies-are = rw (lists, h) (sym (list-kept tallies long));
     }
 
-    pub tallied-counted : {t : Tally} {s : Settings} → t ≡ tallyIn tally → s ≡ settingsIn settings
-        → TalliedDecode t s mask llr (before .slices) x o
-        → TalliedCall tally tally′ settings mask llr before (lent x iterations reason) r
-    tallied-counted {t} {s} f e d =
-        counted-call
-        (subst (λ (y : Tally). TalliedDecode y (settingsIn settings) mask llr (before .slices) x o) f
-        (subst (λ (y : Settings). TalliedDecode t y mask llr (before .slices) x o) e d))
+    abbrev own : Tally
+    own = tallyOf radio (talliesIn tallies)
+
+    module _ (known : ltb radio radioCount ≡ true) where
+      first : radioFirstNumber radio tallies settings ≡ tallyNumber own
+      first = rw (lists, known)
+
+      -- the five numbers of the radio, written with what a call of its own tally leaves
+      list-after : (t : Tally) (answer : Result) → t ≡ tallyBy (tallyNumber own) own answer
+          → take (tallyLength * radio) tallies ++ tallyList t ++ drop (tallyLength * radio + tallyLength) tallies
+          ≡ talliesListAfter radio tallies settings answer
+      list-after t answer e =
+          sym (own-written tallies radio t (ltb-true radio radioCount known) long)
+          ∙ ap (λ (ts : List Tally). talliesOut ts tallies)
+          (ap (set (talliesIn tallies) radio) e
+          ∙ own-stored (tallyNumber own) radio (talliesIn tallies) answer)
+          ∙ rw (lists, known)
+
+      module _ {tallies′ : List ℕ} {x : Slices} {iterations reason r : ℕ} {o : Tallied}
+          (stored : tallies′
+          ≡ take (tallyLength * radio) tallies ++ tallyList (o .tally) ++ drop (tallyLength * radio + tallyLength) tallies)
+          (out : ResultOut (resultOf (o .outcome)) (before .iterations) (before .reason) iterations reason r) where
+        counted-call : TalliedDecode own (settingsIn settings) mask llr (before .slices) x o
+            → RadioCall radio tallies tallies′ settings mask llr before (lent x iterations reason) r
+        counted-call d = record {
+          call = record {
+            number-is = out .0 ∙ rw (first, d .answer);
+            lent-is =
+                lent-same (d .slices ∙ rw first) (out .1 .0 ∙ rw (first, d .answer))
+                (out .1 .1 ∙ rw (first, d .answer));
+          };
+          tallies-are = stored ∙ list-after (o .tally) _ (d .tally-is);
+        }
+
+        pub radio-counted : {t : Tally} {s : Settings} → t ≡ tallyIn (drop (tallyLength * radio) tallies)
+            → s ≡ settingsIn settings → TalliedDecode t s mask llr (before .slices) x o
+            → RadioCall radio tallies tallies′ settings mask llr before (lent x iterations reason) r
+        radio-counted {t} {s} f e d =
+            counted-call
+            (subst (λ (y : Tally). TalliedDecode y (settingsIn settings) mask llr (before .slices) x o)
+            (f ∙ sym (own-read tallies radio (ltb-true radio radioCount known)))
+            (subst (λ (y : Settings). TalliedDecode t y mask llr (before .slices) x o) e d))

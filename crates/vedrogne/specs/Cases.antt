@@ -1,16 +1,16 @@
 -- Lists at their boundary lengths, and answers as numbers. Computed facts.
+use Prim.Native.Nat.{ℕ}
 use mathlib.Core.Path.{_≡_, refl}
-use mathlib.Core.List.{[], _∷_, map}
+use mathlib.Core.List.{List, [], _∷_, _++_, map}
+use lib.ListN.{take, drop, replicate}
 use Rattle.decoder.specs.Decoder.{refused, ended}
 use Rattle.report_input.specs.Input.{blockOf, block}
 use Rattle.report_input.specs.Input as reader
-use Rattle.tally.specs.Tally.{counted}
 use Rattle.vedrogne.specs.Interface.{
   settingsIn,
-  tallyIn,
-  tallyOut,
   settingsListNumber,
-  talliedNumber,
+  radioFirstNumber,
+  talliesListAfter,
   resultNumber,
   iterationsOut,
   reasonOut,
@@ -28,23 +28,33 @@ five-settings = refl
 pub six-settings : settingsListNumber (1 ∷ 31 ∷ 16 ∷ 10 ∷ 1 ∷ 0 ∷ []) ≡ 0
 six-settings = refl
 
--- 15 comes after the 7 of either list; the tally 1 0 0 0 0 is one that 15 refuses
-pub four-of-a-tally : talliedNumber (1 ∷ 0 ∷ 0 ∷ 0 ∷ []) (1 ∷ 31 ∷ 16 ∷ 10 ∷ 1 ∷ 0 ∷ []) ≡ 7
-four-of-a-tally = refl
+-- a list of tallies in which radio 1 has 2 1 0 1 9, radio 2 has 1 0 0 0 0, which 15 refuses, and radio 63 has 1 0 1 0 7;
+-- with one element more behind them
+abbrev tallies : List ℕ
+tallies =
+    0 ∷ 0 ∷ 0 ∷ 0 ∷ 0 ∷ 2 ∷ 1 ∷ 0 ∷ 1 ∷ 9 ∷ 1 ∷ 0 ∷ 0 ∷ 0 ∷ 0
+    ∷ replicate 300 0 ++ (1 ∷ 0 ∷ 1 ∷ 0 ∷ 7 ∷ 77 ∷ [])
 
-pub five-settings-and-15 : talliedNumber (1 ∷ 0 ∷ 0 ∷ 0 ∷ 0 ∷ []) (1 ∷ 31 ∷ 16 ∷ 10 ∷ 1 ∷ []) ≡ 7
-five-settings-and-15 = refl
+abbrev six : List ℕ
+six = 1 ∷ 31 ∷ 16 ∷ 10 ∷ 1 ∷ 0 ∷ []
 
-pub refused-with-15 : talliedNumber (1 ∷ 0 ∷ 0 ∷ 0 ∷ 0 ∷ []) (1 ∷ 31 ∷ 16 ∷ 10 ∷ 1 ∷ 0 ∷ []) ≡ 15
-refused-with-15 = refl
+-- 7 of either list comes before 16, and 16 before 15, which looks at the radio's own numbers
+pub short-of-one : radioFirstNumber 64 (take 319 tallies) six ≡ 7
+short-of-one = refl
 
--- an ending by the limit and a refusal, counted into a list of six elements
-pub ending-counted : tallyOut (counted (tallyIn (4 ∷ 1 ∷ 1 ∷ 2 ∷ 9 ∷ 5 ∷ [])) (ended 10 2)) (4 ∷ 1 ∷ 1 ∷ 2 ∷ 9 ∷ 5 ∷ [])
-    ≡ 5 ∷ 1 ∷ 2 ∷ 2 ∷ 19 ∷ 5 ∷ []
+pub five-settings-and-16 : radioFirstNumber 64 tallies (take 5 six) ≡ 7
+five-settings-and-16 = refl
+
+pub first-numbers : map (λ radio. radioFirstNumber radio tallies six) (0 ∷ 1 ∷ 2 ∷ 3 ∷ 63 ∷ 64 ∷ 4294967295 ∷ [])
+    ≡ 0 ∷ 0 ∷ 15 ∷ 0 ∷ 0 ∷ 16 ∷ 16 ∷ []
+first-numbers = refl
+
+-- an ending by the limit for radio 1 and a refusal for radio 63; the others, and the element behind, stay
+pub ending-counted : talliesListAfter 1 tallies six (ended 10 2)
+    ≡ 0 ∷ 0 ∷ 0 ∷ 0 ∷ 0 ∷ 3 ∷ 1 ∷ 1 ∷ 1 ∷ 19 ∷ drop 10 tallies
 ending-counted = refl
 
-pub refusal-counted : tallyOut (counted (tallyIn (4 ∷ 1 ∷ 1 ∷ 2 ∷ 9 ∷ 5 ∷ [])) (refused 7)) (4 ∷ 1 ∷ 1 ∷ 2 ∷ 9 ∷ 5 ∷ [])
-    ≡ 5 ∷ 1 ∷ 1 ∷ 3 ∷ 9 ∷ 5 ∷ []
+pub refusal-counted : talliesListAfter 63 tallies six (refused 7) ≡ take 315 tallies ++ (2 ∷ 0 ∷ 1 ∷ 1 ∷ 7 ∷ 77 ∷ [])
 refusal-counted = refl
 
 -- number, iteration and reason of an ending and of a refusal; the lent numbers held 77 and 88

@@ -1,30 +1,34 @@
--- What crosses the C interface: lists of 32-bit numbers as settings and as a tally, and what the decoder's functions
--- return and write. Definitions only.
-use Prim.Native.Nat.{ℕ}
+-- What crosses the C interface: lists of 32-bit numbers as settings and as the tallies of the radios, and what the
+-- decoder's functions return and write. Definitions only.
+use Prim.Native.Nat.{ℕ, zero, suc, _*_}
 use mathlib.Core.Path.{_≡_}
-use mathlib.Core.List.{List, [], _∷_}
+use mathlib.Core.List.{List, [], _∷_, _++_}
 use lib.Dec.{leb}
 use lib.IntN.{ℤ}
-use lib.ListN.{length, getD}
+use lib.ListN.{length, getD, drop}
 use Rattle.calls.specs.Numbers.{check, firstRefusal}
-use Rattle.calls.specs.LentMemory.{overwrite, unlessRefused}
+use Rattle.calls.specs.LentMemory.{unlessRefused}
 use Rattle.polar.specs.declared.Code.{Code}
 use Rattle.settings.specs.declared.Settings.{Settings}
 use Rattle.settings.specs.Slices.{Slices}
 use Rattle.decoder.specs.Decoder.{Result, refused, ended, decodeResult, decodeSlices}
 use Rattle.tally.specs.declared.Tally.{Tally}
-use Rattle.tally.specs.Tally.{tallyNumber, answerBy, counted}
+use Rattle.tally.specs.Tally.{answerBy}
+use Rattle.radios.specs.Radios.{radioCount, radioCallNumber, talliesOf}
 
 abbrev pub codeIn : ℕ → Code
 codeIn m = record { m = m }
 
--- ---- lists of numbers: how many elements of a list of settings, and of a tally, are read or written
+-- ---- lists of numbers: how many elements of a list of settings, of one tally and of all tallies are read or written
 
 abbrev pub settingsLength : ℕ
 settingsLength = 6
 
 abbrev pub tallyLength : ℕ
 tallyLength = 5
+
+abbrev pub talliesLength : ℕ
+talliesLength = tallyLength * radioCount
 
 -- in the order of the report's first name line
 abbrev pub settingsIn : List ℕ → Settings
@@ -48,11 +52,21 @@ tallyIn l =
       iterations = getD l 4 0;
     }
 
--- the five numbers in the first five elements, the old contents behind them
-abbrev pub tallyOut : Tally → List ℕ → List ℕ
-tallyOut t old =
-    overwrite tallyLength
-    (λ i. getD (t .blocks ∷ t .«by_criterion» ∷ t .«by_limit» ∷ t .refusals ∷ t .iterations ∷ []) i 0) old
+abbrev pub tallyList : Tally → List ℕ
+tallyList t = t .blocks ∷ t .«by_criterion» ∷ t .«by_limit» ∷ t .refusals ∷ t .iterations ∷ []
+
+-- n tallies, one behind the other: radio r has the elements 5r to 5r + 4
+abbrev pub talliesFrom : ℕ → List ℕ → List Tally
+talliesFrom zero l = []
+talliesFrom (suc n) l = tallyIn l ∷ talliesFrom n (drop tallyLength l)
+
+abbrev pub talliesIn : List ℕ → List Tally
+talliesIn = talliesFrom radioCount
+
+-- each tally in its five elements, the old contents behind them
+abbrev pub talliesOut : List Tally → List ℕ → List ℕ
+talliesOut [] old = old
+talliesOut (t ∷ tallies) old = tallyList t ++ talliesOut tallies (drop tallyLength old)
 
 -- ---- what is tested before the decoder is called
 
@@ -60,10 +74,14 @@ tallyOut t old =
 abbrev pub settingsListNumber : List ℕ → ℕ
 settingsListNumber settings = check (leb settingsLength (length settings)) 7 0
 
--- 7, for a tally with fewer than five elements or for the settings; 15, which comes after both
-abbrev pub talliedNumber : List ℕ → List ℕ → ℕ
-talliedNumber tally settings =
-    check (leb tallyLength (length tally)) 7 (firstRefusal (settingsListNumber settings) (tallyNumber (tallyIn tally)))
+-- 7, for a list of tallies with fewer than 320 elements, or for the settings
+abbrev pub listsNumber : List ℕ → List ℕ → ℕ
+listsNumber tallies settings = check (leb talliesLength (length tallies)) 7 (settingsListNumber settings)
+
+-- 7 of either list, then 16, then 15 of the radio's own tally
+abbrev pub radioFirstNumber : ℕ → List ℕ → List ℕ → ℕ
+radioFirstNumber radio tallies settings =
+    firstRefusal (listsNumber tallies settings) (radioCallNumber radio (talliesIn tallies))
 
 -- ---- the number that is returned for an answer, and what the two numbers lent for iteration and reason hold
 -- afterwards
@@ -106,14 +124,16 @@ module _ (first : ℕ) (settings mask : List ℕ) (llr : List ℤ) (before : Len
     pub number-is : r ≡ resultNumber callResult
     pub lent-is : after ≡ lentAfter
 
--- ---- the promise of `vedrogne_decode_tallied`: the same, and the tally afterwards
+-- ---- the promise of `vedrogne_decode_radio`: the same, and the tallies afterwards
 
--- the decoder's answer is counted, refusals 1 to 10 included; after the 7 of a short list
--- and after 15 the tally is as it was
-abbrev pub tallyListAfter : List ℕ → List ℕ → Result → List ℕ
-tallyListAfter tally settings answer =
-    unlessRefused (talliedNumber tally settings) (tallyOut (counted (tallyIn tally) answer) tally) tally
+-- after the 7 of a short list they are as they were; else they are those that the method `decode` of `Radios` hands back
+abbrev pub talliesListAfter : ℕ → List ℕ → List ℕ → Result → List ℕ
+talliesListAfter radio tallies settings answer =
+    unlessRefused (listsNumber tallies settings)
+    (talliesOut (talliesOf radio (talliesIn tallies) answer) tallies) tallies
 
-pub record TalliedCall (tally tally′ settings mask : List ℕ) (llr : List ℤ) (before after : Lent) (r : ℕ) : Type 0 where
-  pub call : DecodeCall (talliedNumber tally settings) settings mask llr before after r
-  pub tally-is : tally′ ≡ tallyListAfter tally settings (decodeResult (settingsIn settings) mask llr (before .slices))
+pub record RadioCall (radio : ℕ) (tallies tallies′ settings mask : List ℕ) (llr : List ℤ) (before after : Lent) (r : ℕ)
+    : Type 0 where
+  pub call : DecodeCall (radioFirstNumber radio tallies settings) settings mask llr before after r
+  pub tallies-are : tallies′
+      ≡ talliesListAfter radio tallies settings (decodeResult (settingsIn settings) mask llr (before .slices))

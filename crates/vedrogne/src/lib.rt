@@ -1,13 +1,15 @@
 // The C interface: coder, read-out, front, decoder, and the texts of blocks for callers in other languages, as
 // include/vedrogne.h declares them.
-// It sees the promises of `calls`, `polar`, `channel`, `settings`, `decoder`, `tally`, `report_input`, `report_writer`
-// and `report_text`. It promises that each function returns its call's number, 0 or a refusal's, and leaves in every
-// lent slice what the call's definition says; after a refusal nothing has changed, save a tally that counts it.
+// It sees the promises of `calls`, `polar`, `channel`, `settings`, `decoder`, `tally`, `radios`, `report_input`,
+// `report_writer` and `report_text`. It promises that each function returns its call's number, 0 or a refusal's,
+// and leaves in every lent slice what the call's definition says; after a refusal nothing has changed, save a tally that
+// counts it.
 // A slice is a pointer and a length in elements, two parameters in C. No function requires anything of the values
 // handed in.
 ghost use mathlib.Core.Path.{_≡_};
-ghost use Prim.Native.Nat.{_≤_};
-ghost use lib.ListN.{length};
+ghost use mathlib.Core.List.{_++_};
+ghost use Prim.Native.Nat.{_+_, _≤_};
+ghost use lib.ListN.{length, take, drop};
 ghost use Rattle.polar.specs.Code.{encodeNumber, encodeBlock, readOutNumber, readOutMessage};
 ghost use Rattle.channel.specs.Front.{frontNumber, frontLlrs};
 ghost use Rattle.settings.specs.Settings.{settingsList};
@@ -23,32 +25,36 @@ ghost use Rattle.vedrogne.specs.Interface.{
   codeIn,
   settingsIn,
   tallyIn,
-  tallyOut,
+  tallyList,
   settingsListNumber,
   resultNumber,
   iterationsOut,
   reasonOut,
   lent,
   DecodeCall,
-  TalliedCall,
+  RadioCall,
 };
 ghost use Rattle.vedrogne.specs.TextCalls.{readMeaning, ReadCall};
 ghost use Rattle.vedrogne.specs.TextCalls.{writeCallNumber, reportCallNumber, TextCall};
 use calls::Answer;
+use calls::Refusal;
 use channel::Channel;
 use decoder::Outcome;
 use polar::Code;
+use radios::RADIOS;
 use report_input::Input;
 use report_text::REPORT_ROOM;
 use report_writer::Written;
 use settings::Settings;
 use tally::Tally;
 
-// How many elements of a list of settings and of a tally are read or written, and the number that refuses a shorter
-// list.
+// How many elements of a list of settings, of one tally and of all tallies are read or written, and the number that
+// refuses a shorter list.
 const SETTINGS_LENGTH: usize = 6;
 
 const TALLY_LENGTH: usize = 5;
+
+const TALLIES_LENGTH: usize = TALLY_LENGTH * RADIOS;
 
 const SHORT_LIST: u32 = 7;
 
@@ -80,28 +86,30 @@ fn settings_out(values: Settings, settings: &mut [u32])
     settings[5] = values.operand;
 }
 
-fn tally_in(tally: &[u32]) -> Tally
-    requires { ⌜ tallyLength ≤ length (now tally) ⌝ }
-    ensures { λ r. ⌜ r ≡ tallyIn (now (tally .entry)) ⌝ }
+// The tally whose five numbers begin at an element.
+fn tally_in(tallies: &[u32], at: usize) -> Tally
+    requires { ⌜ at + tallyLength ≤ length (now tallies) ⌝ }
+    ensures { λ r. ⌜ r ≡ tallyIn (drop at (now (tallies .entry))) ⌝ }
 {
     Tally {
-        blocks: tally[0],
-        by_criterion: tally[1],
-        by_limit: tally[2],
-        refusals: tally[3],
-        iterations: tally[4],
+        blocks: tallies[at],
+        by_criterion: tallies[at + 1],
+        by_limit: tallies[at + 2],
+        refusals: tallies[at + 3],
+        iterations: tallies[at + 4],
     }
 }
 
-fn tally_out(counts: Tally, tally: &mut [u32])
-    requires { ⌜ tallyLength ≤ length (now tally) ⌝ }
-    ensures { λ _. ⌜ now (tally .exit) ≡ tallyOut counts (now (tally .entry)) ⌝ }
+fn tally_out(counts: Tally, tallies: &mut [u32], at: usize)
+    requires { ⌜ at + tallyLength ≤ length (now tallies) ⌝ }
+    ensures { λ _. ⌜ now (tallies .exit)
+        ≡ take at (now (tallies .entry)) ++ tallyList counts ++ drop (at + tallyLength) (now (tallies .entry)) ⌝ }
 {
-    tally[0] = counts.blocks;
-    tally[1] = counts.by_criterion;
-    tally[2] = counts.by_limit;
-    tally[3] = counts.refusals;
-    tally[4] = counts.iterations;
+    tallies[at] = counts.blocks;
+    tallies[at + 1] = counts.by_criterion;
+    tallies[at + 2] = counts.by_limit;
+    tallies[at + 3] = counts.refusals;
+    tallies[at + 4] = counts.iterations;
 }
 
 // The number to return; iteration and reason are written only where the decoder ended.
@@ -157,11 +165,11 @@ pub extern "C" fn vedrogne_decode(
     result_out(outcome, iterations, reason)
 }
 
-// The tally's list is written back after every call of the decoder; where 15 refuses it,
-// its numbers are those that it held.
+// Of the tallies only the radio's five numbers are read and written; where 15 refuses them they are written as they were.
 #[no_mangle]
-pub extern "C" fn vedrogne_decode_tallied(
-    tally: &mut [u32],
+pub extern "C" fn vedrogne_decode_radio(
+    radio: u32,
+    tallies: &mut [u32],
     settings: &[u32],
     mask: &[u8],
     llr: &[i16],
@@ -173,7 +181,7 @@ pub extern "C" fn vedrogne_decode_tallied(
     iterations: &mut u32,
     reason: &mut u32,
 ) -> u32
-    ensures { λ r. ⌜ TalliedCall (now (tally .entry)) (now (tally .exit))
+    ensures { λ r. ⌜ RadioCall radio (now (tallies .entry)) (now (tallies .exit))
         (now (settings .entry)) (now (mask .entry)) (now (llr .entry))
         (lent (slices (now (soft .entry)) (now (mark .entry))
         (now («coded_soft» .entry)) (now («coded_mark» .entry)) (now (work .entry)))
@@ -183,13 +191,17 @@ pub extern "C" fn vedrogne_decode_tallied(
         (now (iterations .exit)) (now (reason .exit)))
         r ⌝ }
 {
-    if tally.len() < TALLY_LENGTH {
+    if tallies.len() < TALLIES_LENGTH {
         return SHORT_LIST;
     }
     if settings.len() < SETTINGS_LENGTH {
         return SHORT_LIST;
     }
-    let tallied = tally_in(tally).decode(
+    if !radios::is_radio(radio) {
+        return calls::number(Answer::Refused(Refusal::RadioNumber));
+    }
+    let at = TALLY_LENGTH * radio as usize;
+    let tallied = tally_in(tallies, at).decode(
         settings_in(settings),
         mask,
         llr,
@@ -201,7 +213,7 @@ pub extern "C" fn vedrogne_decode_tallied(
     );
     let counts = tallied.tally;
     let outcome = tallied.outcome;
-    tally_out(counts, tally);
+    tally_out(counts, tallies, at);
     result_out(outcome, iterations, reason)
 }
 
