@@ -1,7 +1,7 @@
 -- Request 2026-04: handsets decode under criterion 4 and desks under criterion 2, and for every block and setting,
 -- accepted or not, the two give equal answers. First of the decoder's definitions; then of any two calls that keep the
--- promise of `decode`, of a tallied call, of the report, and of the C functions that answer with what is decoded:
--- `vedrogne_decode`, `vedrogne_decode_tallied` and `vedrogne_report`.
+-- promise of `decode`, of a tallied call, of a call for a radio, of the report, and of the C functions that answer with
+-- what is decoded: `vedrogne_decode`, `vedrogne_decode_radio` and `vedrogne_report`.
 use Prim.Native.Nat.{ℕ, zero, suc, _^_, _≤_}
 use mathlib.Core.Path.{_≡_, refl, sym, ap, ap₂, _∙_}
 use mathlib.Core.Bool.{Bool, true, false, cond}
@@ -24,6 +24,9 @@ use Rattle.decoder.specs.ResultLaws.{result-same}
 use Rattle.tally.specs.declared.Tally.{Tally}
 use Rattle.tally.specs.declared.Tallied.{Tallied}
 use Rattle.tally.specs.Tally.{tallyNumber, answerBy, tallyBy, TalliedDecode}
+use Rattle.radios.specs.declared.Radios.{Radios}
+use Rattle.radios.specs.declared.RadioTallied.{RadioTallied}
+use Rattle.radios.specs.Radios.{radioCallNumber, talliesOf, RadioDecode}
 use Rattle.scan.specs.Reading.{Reading, found, malformed}
 use Rattle.report_input.specs.Input.{
   longestText,
@@ -43,8 +46,8 @@ use Rattle.report_text.specs.Report.{outcomeText, outputsAt, blockText, workspa
 use Rattle.vedrogne.specs.Interface.{
   settingsIn,
   settingsListNumber,
-  talliedNumber,
-  tallyListAfter,
+  radioFirstNumber,
+  talliesListAfter,
   resultNumber,
   iterationsOut,
   reasonOut,
@@ -53,7 +56,7 @@ use Rattle.vedrogne.specs.Interface.{
   callResult,
   lentAfter,
   DecodeCall,
-  TalliedCall,
+  RadioCall,
 }
 use Rattle.vedrogne.specs.TextCalls.{reportCallNumber, TextCall}
 use Rattle.agreement.specs.SameDecoding.{under, SameDecoding, listUnder, readingUnder, TextsDiffer}
@@ -101,6 +104,19 @@ module _ (s : Settings) (mask : List ℕ) (llr : List ℤ) (lent : Slices) where
         ∙ sym (two .slices),
   )
 
+  -- any two calls for the same radio that are handed the same tallies: all 64 come back the same
+  pub radio-agrees : {radio : ℕ} {radios : Radios} {new new′ : Slices} {r r′ : RadioTallied}
+      → RadioDecode radios radio (under 4 s) mask llr lent new r → RadioDecode radios radio (under 2 s) mask llr lent new′ r′
+      → (resultOf (r .outcome) ≡ resultOf (r′ .outcome)) × (r .radios .tallies ≡ r′ .radios .tallies) × (new ≡ new′)
+  radio-agrees {radio} {radios} four two =
+      let first = radioCallNumber radio (radios .tallies) in (
+        four .answer ∙ ap (answerBy first) (criteria-agree .answer) ∙ sym (two .answer),
+        four .tallies-are ∙ ap (talliesOf radio (radios .tallies)) (criteria-agree .answer) ∙ sym (two .tallies-are),
+        four .slices
+            ∙ ap (λ (slices : Slices). unlessRefused first slices lent) (criteria-agree .slices)
+            ∙ sym (two .slices),
+      )
+
 -- ---- the C functions of the decoder, by what they promise of the number returned and of all memory behind their
 -- pointers
 
@@ -111,7 +127,7 @@ module _ (m ceiling scale limit : ℕ) (behind mask : List ℕ) (llr : List ℤ)
   same : SameDecoding (settingsIn (list 4)) (settingsIn (list 2)) mask llr (before .slices)
   same = criteria-agree (settingsIn (list 2)) mask llr (before .slices)
 
-  -- `first` is the number of what is tested before the decoder's own tests: the lengths of the lists, the tally
+  -- `first` is the number of what is tested before the decoder's own tests: the lengths of the lists, the radio, its tally
   results : (first : ℕ) → callResult first (list 4) mask llr before ≡ callResult first (list 2) mask llr before
   results first = ap (answerBy first) (same .answer)
 
@@ -134,15 +150,15 @@ module _ (m ceiling scale limit : ℕ) (behind mask : List ℕ) (llr : List ℤ)
       → DecodeCall (settingsListNumber (list 2)) (list 2) mask llr before new′ r′ → (r ≡ r′) × (new ≡ new′)
   c-decode-agrees four two = call-agrees (settingsListNumber (list 2)) four two
 
-  pub c-tallied-agrees : {tally counted counted′ : List ℕ} {new new′ : Lent} {r r′ : ℕ}
-      → TalliedCall tally counted (list 4) mask llr before new r
-      → TalliedCall tally counted′ (list 2) mask llr before new′ r′
+  pub c-radio-agrees : {radio : ℕ} {tallies counted counted′ : List ℕ} {new new′ : Lent} {r r′ : ℕ}
+      → RadioCall radio tallies counted (list 4) mask llr before new r
+      → RadioCall radio tallies counted′ (list 2) mask llr before new′ r′
       → (r ≡ r′) × (new ≡ new′) × (counted ≡ counted′)
-  c-tallied-agrees {tally} four two =
-      let calls = call-agrees (talliedNumber tally (list 2)) (four .call) (two .call) in (
+  c-radio-agrees {radio} {tallies} four two =
+      let calls = call-agrees (radioFirstNumber radio tallies (list 2)) (four .call) (two .call) in (
         calls .0,
         calls .1,
-        four .tally-is ∙ ap (tallyListAfter tally (list 2)) (same .answer) ∙ sym (two .tally-is),
+        four .tallies-are ∙ ap (talliesListAfter radio tallies (list 2)) (same .answer) ∙ sym (two .tallies-are),
       )
 
 -- ---- the report, of two texts that differ in the criterion alone, refused ones among them
