@@ -31,9 +31,9 @@
  *     4      the limit T is outside 1..200                                     decode, read, write
  *     5      the criterion is outside 0..4                                     decode, read, write
  *     6      the operand is outside its criterion's range                      decode, read, write
- *     7      a list is shorter than needed. The list of settings and the       all
- *            tally are tested before everything; a message list shorter
- *            than K after 9; the text that write fills after 10
+ *     7      a list is shorter than needed. The list of settings and that      all
+ *            of the tallies are tested before everything; a message list
+ *            shorter than K after 9; the text that write fills after 10
  *     8      a mask value in the first N is neither 0 nor 1                    encode, read_out, decode, read, write
  *     9      the mask has no information position                              encode, read_out, decode, read, write
  *    10      a log-likelihood ratio (LLR) in the first N has a size above C    decode, read, write
@@ -42,9 +42,11 @@
  *    13      a message byte in the first K is above 1                          encode
  *    14      the text of a block is malformed. Its length and first three      read
  *            lines are tested before 1, the rest of it before 2
- *    15      the tally can't be counted on: blocks at or above 1,000,000;      decode_tallied
- *            or blocks not the sum of endings and refusals; or iterations
- *            below the endings or above 200 times them. Tested before 1 to 10
+ *    15      the radio's tally can't be counted on: blocks at or above         decode_radio
+ *            1,000,000; or blocks not the sum of endings and refusals; or
+ *            iterations below the endings or above 200 times them. Tested
+ *            before 1 to 10
+ *    16      the radio number is above 63. Tested before 15                    decode_radio
  */
 #ifndef VEDROGNE_H
 #define VEDROGNE_H
@@ -144,13 +146,19 @@ uint32_t vedrogne_decode(
     uint32_t *reason);
 
 /*
- * Decodes as vedrogne_decode does, and counts the answer in tally[0..4]: blocks, endings by reason 1, endings by reason
- * 2, refusals, iterations. A tally starts with five zeros. Refusals 1 to 10 are counted, as a block with no iterations.
- * A tally of fewer than five elements is refused with 7, then a list of settings of fewer than six; then comes 15. Of
- * these three none is counted, and the tally stays as it was.
+ * Decodes as vedrogne_decode does, and counts the answer in the tally of the radio, whose number is 0 to 63.
+ *
+ * tallies has 320 elements: 64 tallies of five numbers, radio r's in tallies[5 r .. 5 r + 4]: blocks, endings by reason
+ * 1, endings by reason 2, refusals, iterations. It starts with zeros. Refusals 1 to 10 are counted, as a block with no
+ * iterations. The five numbers of the radio are all that is read and written there.
+ *
+ * Numbers: 7 for fewer than 320 elements of tallies, 7 for fewer than six of settings, 16, 15; none of these is
+ * counted, and all tallies stay as they were. Then 1 to 10. What the other 63 tallies hold refuses nothing. From zeros
+ * none of the first 1,000,000 calls is refused with 15.
  */
-uint32_t vedrogne_decode_tallied(
-    uint32_t *tally, size_t tally_len,
+uint32_t vedrogne_decode_radio(
+    uint32_t radio,
+    uint32_t *tallies, size_t tallies_len,
     const uint32_t *settings, size_t settings_len,
     const uint8_t *mask, size_t mask_len,
     const int16_t *llr, size_t llr_len,

@@ -2,3 +2,4 @@ pub mod Radios
 pub mod Runs
 pub mod RadioLaws
 pub mod SumLaws
+pub mod Cases

@@ -1,0 +1,51 @@
+-- The boundary values of 16, that 15 looks at one tally, and a run of calls by hand. Computed facts.
+use Prim.Native.Nat.{ℕ}
+use mathlib.Core.Path.{_≡_, refl}
+use mathlib.Core.List.{List, [], _∷_, map}
+use lib.ListN.{set}
+use Rattle.decoder.specs.Decoder.{Result, refused, ended}
+use Rattle.tally.specs.declared.Tally.{Tally}
+use Rattle.tally.specs.Runs.{none}
+use Rattle.radios.specs.Radios.{radioNumber, tallyOf, radioCallNumber, talliesOf}
+use Rattle.radios.specs.Runs.{noBlocks, sumOver}
+
+-- blocks, endings by reason 1 and by reason 2, refusals, iterations
+abbrev tally : ℕ → ℕ → ℕ → ℕ → ℕ → Tally
+tally blocks by-criterion by-limit refusals iterations =
+    record {
+      blocks = blocks;
+      «by_criterion» = by-criterion;
+      «by_limit» = by-limit;
+      refusals = refusals;
+      iterations = iterations;
+    }
+
+-- the largest number of 32 bits last
+pub numbers : map radioNumber (0 ∷ 1 ∷ 63 ∷ 64 ∷ 4294967295 ∷ []) ≡ 0 ∷ 0 ∷ 0 ∷ 16 ∷ 16 ∷ []
+numbers = refl
+
+-- radios 0 and 5 have tallies that 15 refuses, radio 63 has a full one
+abbrev some-unusable : List Tally
+some-unusable =
+    set (set (set noBlocks 0 (tally 1 0 0 0 0)) 5 (tally 1 1 0 0 201)) 63 (tally 1000000 1000000 0 0 1000000)
+
+pub own-tally-only : map (λ radio. radioCallNumber radio some-unusable) (0 ∷ 1 ∷ 4 ∷ 5 ∷ 6 ∷ 62 ∷ 63 ∷ 64 ∷ [])
+    ≡ 15 ∷ 0 ∷ 0 ∷ 15 ∷ 0 ∷ 0 ∷ 15 ∷ 16 ∷ []
+own-tally-only = refl
+
+-- calls for radios 5, 5 and 63: an ending by either reason and a refusal
+abbrev counted-three : List Tally
+counted-three = talliesOf 63 (talliesOf 5 (talliesOf 5 noBlocks (ended 7 1)) (ended 200 2)) (refused 10)
+
+pub counted-in-turn : counted-three ≡ set (set noBlocks 5 (tally 2 1 1 0 207)) 63 (tally 1 0 0 1 0)
+counted-in-turn = refl
+
+pub their-sum : sumOver counted-three ≡ tally 3 1 1 1 207
+their-sum = refl
+
+-- what 15 and 16 refuse leaves all 64 as they were
+pub kept-on-15 : talliesOf 5 some-unusable (ended 7 1) ≡ some-unusable
+kept-on-15 = refl
+
+pub kept-on-16 : talliesOf 64 counted-three (ended 7 1) ≡ counted-three
+kept-on-16 = refl
