@@ -1,5 +1,5 @@
-//! A second coder, channel front, decoder, tally, report and tidy writer for
-//! polar blocks.
+//! A second coder, channel front, decoder, report and tidy writer for polar
+//! blocks, with a tally for each radio.
 //!
 //! Written from document 01 of the tender (`01-scope.md`) and the change
 //! requests to it, not from the proved code. It exists to be compared with the
@@ -14,6 +14,7 @@ pub mod decode;
 pub mod endings;
 pub mod front;
 pub mod messages;
+pub mod radios;
 pub mod refusal;
 pub mod report;
 pub mod tally;
@@ -23,12 +24,15 @@ pub mod tidy;
 pub use code::{encode, read_out};
 pub use decode::{decode, Ending, Lent, Settings};
 pub use front::{front, Channel};
+pub use radios::{decode_radio, Radios, RADIOS};
 pub use refusal::Refusal;
 pub use report::report;
-pub use tally::{decode_tallied, Tally};
+pub use tally::Tally;
 pub use text::read;
 pub use tidy::{tidy, write};
 
+#[cfg(test)]
+mod radios_tests;
 #[cfg(test)]
 mod tests;
 #[cfg(test)]

@@ -1,4 +1,4 @@
-//! The fifteen refusals, with the numbers of the paper.
+//! The sixteen refusals, with the numbers of the paper.
 
 /// Why a call was refused. `as u32`, or `number()`, gives the paper's number.
 #[derive(Clone, Copy, Debug, PartialEq, Eq)]
@@ -29,10 +29,12 @@ pub enum Refusal {
     Sample = 12,
     /// a message byte above 1
     MessageByte = 13,
-    /// a malformed report input
+    /// a malformed text
     Text = 14,
     /// a tally that cannot be right, or is full
     Tally = 15,
+    /// a radio number above 63
+    Radio = 16,
 }
 
 impl Refusal {

@@ -1,6 +1,6 @@
-//! The tally: a value that each tallied call hands back.
+//! The tally of one radio: five counts over its calls.
 
-use crate::decode::{decode, Ending, Lent, Settings};
+use crate::decode::Ending;
 use crate::refusal::Refusal;
 
 /// The five counts.
@@ -14,6 +14,28 @@ pub struct Tally {
 }
 
 impl Tally {
+    /// The tally from its numbers in the order of their names.
+    pub fn from_list([blocks, reason1, reason2, refusals, iterations]: [u32; 5]) -> Self {
+        Tally {
+            blocks,
+            reason1,
+            reason2,
+            refusals,
+            iterations,
+        }
+    }
+
+    /// Its numbers in the order of their names.
+    pub fn list(&self) -> [u32; 5] {
+        [
+            self.blocks,
+            self.reason1,
+            self.reason2,
+            self.refusals,
+            self.iterations,
+        ]
+    }
+
     /// Whether a call may be counted; where not, the call is refused with 15.
     pub fn may_count(&self) -> bool {
         let blocks = u64::from(self.blocks);
@@ -41,20 +63,4 @@ impl Tally {
         }
         self
     }
-}
-
-/// The decoder with a tally. Refusal 15 is tested before everything and hands
-/// the tally back unchanged.
-pub fn decode_tallied(
-    tally: Tally,
-    settings: &Settings,
-    mask: &[u8],
-    llr: &[i16],
-    lent: &mut Lent,
-) -> (Tally, Result<Ending, Refusal>) {
-    if !tally.may_count() {
-        return (tally, Err(Refusal::Tally));
-    }
-    let answer = decode(settings, mask, llr, lent);
-    (tally.counting(&answer), answer)
 }

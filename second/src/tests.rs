@@ -372,25 +372,3 @@ fn coder_orders_its_refusals() {
     assert_eq!(coder(&[0, 1], &[2]), Err(Refusal::MessageByte));
     assert_eq!(coder(&[0, 1], &[1, 2]), Ok(()));
 }
-
-#[test]
-fn tally_bounds() {
-    let tally = |blocks, reason1, reason2, refusals, iterations| {
-        let tally = Tally {
-            blocks,
-            reason1,
-            reason2,
-            refusals,
-            iterations,
-        };
-        tally.may_count()
-    };
-    assert!(tally(0, 0, 0, 0, 0));
-    assert!(tally(999_999, 999_999, 0, 0, 999_999));
-    assert!(tally(999_999, 0, 999_999, 0, 199_999_800));
-    assert!(!tally(1_000_000, 0, 0, 1_000_000, 0));
-    assert!(!tally(2, 1, 0, 0, 1));
-    assert!(!tally(2, 1, 1, 0, 1));
-    assert!(!tally(2, 1, 1, 0, 401));
-    assert!(!tally(1, u32::MAX, 2, 0, 1));
-}

@@ -25,6 +25,28 @@ const FAULTS: &[&str] = &[
     "fence",
     "tally_wraps",
     "tally_full",
+    "radio_counts_in_0",
+    "radio_15_of_0",
+    "radio_15_of_all",
+    "radio_16_after_15",
+    "radio_63_refused",
+    "radio_64_accepted",
+    "radio_16_counted_in_63",
+    "radio_16_counted_in_0",
+    "radio_next_cleared",
+    "radio_iterations_elsewhere",
+    "radio_15_rewritten",
+    "radio_319_numbers",
+    "radio_7_after_16",
+    "radio_settings_after_16",
+    "radio_settings_after_15",
+    "radio_settings_counted",
+    "radio_own_numbers",
+    "radio_cut",
+    "radio_place_wraps",
+    "radio_rest_cleared",
+    "radio_refusal_not_counted",
+    "radio_15_counted",
     "read_behind",
     "settings_late",
     "mask_late",
@@ -97,9 +119,15 @@ fn exit_code(report: &str, tidy: &str) -> Option<i32> {
     run("", report, tidy).status.code()
 }
 
+/// Calls for a radio with each combination of reasons to be refused are among
+/// the calls.
 #[test]
 fn no_fault_no_difference() {
-    assert_eq!(exit_code(REPORT, TIDY), Some(0));
+    let output = run("", REPORT, TIDY);
+    assert_eq!(output.status.code(), Some(0));
+    let told = String::from_utf8_lossy(&output.stdout);
+    let combinations = told.matches("calls for a radio, reasons to refuse: ");
+    assert_eq!(combinations.count(), 16);
 }
 
 #[test]

@@ -43,6 +43,8 @@ mod plan;
 mod programs;
 #[path = "compare/property.rs"]
 mod property;
+#[path = "compare/radio_draws.rs"]
+mod radio_draws;
 #[path = "compare/resting.rs"]
 mod resting;
 #[path = "compare/rng.rs"]
@@ -58,6 +60,9 @@ mod selftest_criteria;
 #[cfg(feature = "selftest")]
 #[path = "compare/selftest_frozen.rs"]
 mod selftest_frozen;
+#[cfg(feature = "selftest")]
+#[path = "compare/selftest_radios.rs"]
+mod selftest_radios;
 #[cfg(feature = "selftest")]
 #[path = "compare/selftest_scaling.rs"]
 mod selftest_scaling;

@@ -80,13 +80,18 @@ fn require_agreement<C: Named>(call: &C) -> Result<(), Difference> {
     )))
 }
 
-/// Makes a decoder call under both criteria, whatever its own is. Either one is
-/// compared with the second library, so that its two answers agree as well.
+/// Makes a decoder call under both criteria, whatever its own is; both calls
+/// for a radio start with the same tallies, and have to leave the same. Either
+/// one is compared with the second library, so that its two answers agree as
+/// well.
 pub fn check_decode(judge: &mut Judge, call: &DecodeCall) -> Result<(), Difference> {
     let (answer, after) = judge.check_decode(&under(call, 2))?;
     judge.check_decode(&under(call, 4))?;
     require_agreement(call)?;
-    judge.count_answer("criteria 2 and 4: pairs of decoder calls", answer);
+    judge.count_answer(
+        &format!("criteria 2 and 4: pairs of {}", call.name()),
+        answer,
+    );
     if answer == 0 && after.reason.slice()[0] == 1 {
         judge.count_event("criteria 2 and 4: pairs ended by reason 1");
         if after.iterations.slice()[0] > 1 {

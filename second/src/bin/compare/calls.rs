@@ -3,7 +3,7 @@
 use crate::frozen::uncertain;
 use crate::memory::{Fenced, Memory};
 use crate::plan::{CEILING, M};
-use second::{Channel, Ending, Lent, Refusal, Settings, Tally};
+use second::{Channel, Ending, Lent, Radios, Refusal, Settings};
 
 #[derive(Clone)]
 pub struct EncodeCall {
@@ -30,10 +30,17 @@ pub struct FrontCall {
     pub llr: Fenced<i16>,
 }
 
+/// What a call for a radio is handed before the decoder's own arguments.
+#[derive(Clone)]
+pub struct Counting {
+    pub radio: u32,
+    pub tallies: Fenced<u32>,
+}
+
 #[derive(Clone)]
 pub struct DecodeCall {
-    /// Present in a tallied call.
-    pub tally: Option<Fenced<u32>>,
+    /// Present in a call for a radio.
+    pub counting: Option<Counting>,
     pub settings: Fenced<u32>,
     pub mask: Fenced<u8>,
     pub llr: Fenced<i16>,
@@ -169,16 +176,19 @@ impl Call for FrontCall {
 
 impl Call for DecodeCall {
     fn name(&self) -> &'static str {
-        if self.tally.is_some() {
-            "vedrogne_decode_tallied"
+        if self.counting.is_some() {
+            "vedrogne_decode_radio"
         } else {
             "vedrogne_decode"
         }
     }
 
     fn arguments(&self) -> Vec<Argument> {
-        let tally = self.tally.as_ref().map(|tally| tally.shown("tally"));
-        let mut arguments: Vec<Argument> = tally.map(Argument::Slice).into_iter().collect();
+        let mut arguments = Vec::new();
+        if let Some(counting) = &self.counting {
+            arguments.push(Argument::Number(counting.radio));
+            arguments.push(Argument::Slice(counting.tallies.shown("tallies")));
+        }
         let slices = [
             self.settings.shown("settings"),
             self.mask.shown("mask"),
@@ -200,16 +210,16 @@ impl Call for DecodeCall {
     }
 
     /// The rules of the C interface around the second library: six settings
-    /// and five tally numbers are needed before everything else.
+    /// and the numbers of all radios are needed before everything else.
     fn second(&mut self) -> u32 {
         let Some(settings) = settings_of(self.settings.slice()) else {
             return Refusal::Slice.number();
         };
-        let tally = self.tally.as_ref().map(|tally| tally_of(tally.slice()));
-        let answer = match tally {
+        let read = |counting: &Counting| Radios::from_list(counting.tallies.slice());
+        let answer = match self.counting.as_ref().map(read) {
             None => self.second_plain(&settings),
-            Some(None) => return Refusal::Slice.number(),
-            Some(Some(tally)) => self.second_tallied(tally, &settings),
+            Some(Err(refusal)) => return refusal.number(),
+            Some(Ok(tallies)) => self.second_for_radio(tallies, &settings),
         };
         match answer {
             Err(refusal) => refusal.number(),
@@ -241,7 +251,14 @@ impl DecodeCall {
         second::decode(settings, self.mask.slice(), self.llr.slice(), &mut lent)
     }
 
-    fn second_tallied(&mut self, tally: Tally, settings: &Settings) -> Result<Ending, Refusal> {
+    fn second_for_radio(
+        &mut self,
+        tallies: Radios,
+        settings: &Settings,
+    ) -> Result<Ending, Refusal> {
+        let Some(counting) = &mut self.counting else {
+            return self.second_plain(settings);
+        };
         let mut lent = Lent {
             soft: self.soft.slice_mut(),
             mark: self.mark.slice_mut(),
@@ -249,11 +266,11 @@ impl DecodeCall {
             coded_mark: self.coded_mark.slice_mut(),
             work: self.work.slice_mut(),
         };
-        let (mask, llr) = (self.mask.slice(), self.llr.slice());
-        let (tally, answer) = second::decode_tallied(tally, settings, mask, llr, &mut lent);
-        if let Some(memory) = &mut self.tally {
-            memory.slice_mut()[..5].copy_from_slice(&tally_numbers(&tally));
-        }
+        let (radio, mask, llr) = (counting.radio, self.mask.slice(), self.llr.slice());
+        let (tallies, answer) =
+            second::decode_radio(radio, tallies, settings, mask, llr, &mut lent);
+        let numbers = tallies.list();
+        counting.tallies.slice_mut()[..numbers.len()].copy_from_slice(&numbers);
         answer
     }
 }
@@ -262,26 +279,4 @@ impl DecodeCall {
 pub fn settings_of(numbers: &[u32]) -> Option<Settings> {
     let list = numbers.first_chunk::<6>()?;
     Some(Settings::from_list(list.map(i64::from)))
-}
-
-/// The tally from a slice of at least five numbers.
-pub fn tally_of(numbers: &[u32]) -> Option<Tally> {
-    let &[blocks, reason1, reason2, refusals, iterations] = numbers.first_chunk::<5>()?;
-    Some(Tally {
-        blocks,
-        reason1,
-        reason2,
-        refusals,
-        iterations,
-    })
-}
-
-pub fn tally_numbers(tally: &Tally) -> [u32; 5] {
-    [
-        tally.blocks,
-        tally.reason1,
-        tally.reason2,
-        tally.refusals,
-        tally.iterations,
-    ]
 }

@@ -1,12 +1,14 @@
 //! One comparison after the other, each with its own generator.
 
+use crate::calls::DecodeCall;
 use crate::generate::*;
 use crate::judge::{Difference, Judge};
 use crate::plan::{draw_m, CRITERION};
 use crate::programs::{check_report, check_tidy, Programs};
+use crate::radio_draws::draw_for_radio;
 use crate::rng::Rng;
 use crate::text_draws::{draw_read, draw_report, draw_write};
-use crate::{agree, property, runs, spellings, tallies};
+use crate::{agree, property, runs, spellings};
 
 /// Makes comparison number `index` under the seed.
 pub fn compare_one(
@@ -21,8 +23,13 @@ pub fn compare_one(
         0..=11 => judge.check(&draw_encode(rng)).map(|_| ()),
         12..=19 => judge.check(&draw_read_out(rng)).map(|_| ()),
         20..=41 => judge.check(&draw_front(rng)).map(|_| ()),
-        42..=64 => check_decode(rng, judge, false),
-        65..=75 => check_decode(rng, judge, true),
+        42..=64 => {
+            let m = draw_m(rng);
+            let plan = draw_decode(rng, m);
+            let call = build_decode(rng, &plan, None);
+            check_decode(rng, judge, &call)
+        }
+        65..=75 => check_for_radio(rng, judge),
         76..=81 => property::check(rng, judge),
         82..=84 => runs::check(rng, judge),
         85..=94 => judge.check(&draw_read(rng)).map(|_| ()),
@@ -34,21 +41,25 @@ pub fn compare_one(
     }
 }
 
-fn check_decode(rng: &mut Rng, judge: &mut Judge, tallied: bool) -> Result<(), Difference> {
-    let m = draw_m(rng);
-    let plan = draw_decode(rng, m);
-    let tally = tallied.then(|| tallies::draw_tally(rng));
-    let call = build_decode(rng, &plan, tally);
-    judge.check_decode(&call)?;
+/// The call as it is drawn, and under criteria 2 and 4.
+fn check_decode(rng: &mut Rng, judge: &mut Judge, call: &DecodeCall) -> Result<(), Difference> {
+    judge.check_decode(call)?;
     // Operands of other criteria are seldom good ones for 2 and 4.
-    let percent = match plan.plan.settings[CRITERION] {
-        2 | 4 => 100,
+    let percent = match call.settings.slice().get(CRITERION) {
+        Some(2 | 4) => 100,
         _ => 25,
     };
     if rng.chance(percent) {
-        agree::check_decode(judge, &call)?;
+        agree::check_decode(judge, call)?;
     }
     Ok(())
+}
+
+fn check_for_radio(rng: &mut Rng, judge: &mut Judge) -> Result<(), Difference> {
+    let drawn = draw_for_radio(rng);
+    let reasons = drawn.reasons;
+    judge.count_event(&format!("calls for a radio, reasons to refuse: {reasons}"));
+    check_decode(rng, judge, &drawn.call)
 }
 
 fn check_report_call(rng: &mut Rng, judge: &mut Judge) -> Result<(), Difference> {

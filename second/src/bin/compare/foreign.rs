@@ -1,6 +1,6 @@
 //! The C boundary: the library under test, called through its C names.
 
-use crate::calls::{DecodeCall, EncodeCall, FrontCall, ReadOutCall};
+use crate::calls::{Counting, DecodeCall, EncodeCall, FrontCall, ReadOutCall};
 use crate::text_calls::{ReadCall, ReportCall, WriteCall};
 use second::Channel;
 
@@ -75,9 +75,10 @@ extern "C" {
         reason: *mut u32,
     ) -> u32;
 
-    fn vedrogne_decode_tallied(
-        tally: *mut u32,
-        tally_len: usize,
+    fn vedrogne_decode_radio(
+        radio: u32,
+        tallies: *mut u32,
+        tallies_len: usize,
         settings: *const u32,
         settings_len: usize,
         mask: *const u8,
@@ -181,13 +182,13 @@ pub fn front(call: &mut FrontCall) -> u32 {
 }
 
 pub fn decode(call: &mut DecodeCall) -> u32 {
-    match call
-        .tally
-        .as_mut()
-        .map(|tally| (tally.pointer(), tally.len()))
-    {
+    match call.counting.take() {
         None => decode_plain(call),
-        Some((tally, tally_len)) => decode_tallied(tally, tally_len, call),
+        Some(mut counting) => {
+            let answer = decode_for_radio(&mut counting, call);
+            call.counting = Some(counting);
+            answer
+        }
     }
 }
 
@@ -217,12 +218,13 @@ fn decode_plain(call: &mut DecodeCall) -> u32 {
     }
 }
 
-fn decode_tallied(tally: *mut u32, tally_len: usize, call: &mut DecodeCall) -> u32 {
-    // Safety: as in `decode_plain`; the tally is the call's own.
+fn decode_for_radio(counting: &mut Counting, call: &mut DecodeCall) -> u32 {
+    // Safety: as in `decode_plain`.
     unsafe {
-        vedrogne_decode_tallied(
-            tally,
-            tally_len,
+        vedrogne_decode_radio(
+            counting.radio,
+            counting.tallies.pointer(),
+            counting.tallies.len(),
             call.settings.pointer(),
             call.settings.len(),
             call.mask.pointer(),

@@ -1,6 +1,6 @@
 //! Random calls, good ones and ones that are refused for one or more reasons.
 
-use crate::calls::{DecodeCall, EncodeCall, FrontCall, ReadOutCall};
+use crate::calls::{Counting, DecodeCall, EncodeCall, FrontCall, ReadOutCall};
 use crate::floats::{bad_number, draw_channel, draw_samples, not_finite};
 use crate::memory::Fenced;
 use crate::plan::*;
@@ -264,12 +264,12 @@ pub fn draw_decode(rng: &mut Rng, m: i64) -> DecodePlan {
     call
 }
 
-pub fn build_decode(rng: &mut Rng, call: &DecodePlan, tally: Option<Fenced<u32>>) -> DecodeCall {
+pub fn build_decode(rng: &mut Rng, call: &DecodePlan, counting: Option<Counting>) -> DecodeCall {
     let settings = call.plan.settings.map(|v| v as u32);
     let llr: Vec<i16> = call.plan.llr.iter().map(|&v| v as i16).collect();
     let lengths = call.lengths;
     DecodeCall {
-        tally,
+        counting,
         settings: Fenced::new(rng, &settings, call.settings_len),
         mask: Fenced::new(rng, &bytes(&call.plan.mask), lengths[0]),
         llr: Fenced::new(rng, &llr, lengths[1]),

@@ -13,7 +13,7 @@ pub struct Judge {
     /// Print every call before it is made.
     pub show: bool,
     /// By kind of call: how often each answer number came up.
-    answers: BTreeMap<String, [u64; 16]>,
+    answers: BTreeMap<String, [u64; 17]>,
     /// By criterion: endings by reason 1, by reason 2; and of the former those
     /// after iteration 1, and those among these at the limit.
     endings: [[u64; 4]; 5],
@@ -26,7 +26,7 @@ pub struct Judge {
 impl Judge {
     pub fn count_answer(&mut self, kind: &str, answer: u32) {
         let row = self.answers.entry(kind.to_string()).or_default();
-        row[answer as usize & 15] += 1;
+        row[answer as usize] += 1;
     }
 
     pub fn count_event(&mut self, name: &str) {
@@ -84,7 +84,7 @@ impl Judge {
     pub fn print(&self) {
         println!("answers by kind (number: how often):");
         for (kind, row) in &self.answers {
-            let shown = (0..16).filter(|&i| row[i] > 0);
+            let shown = (0..row.len()).filter(|&i| row[i] > 0);
             let shown: Vec<String> = shown.map(|i| format!("{i}: {}", row[i])).collect();
             let total: u64 = row.iter().sum();
             println!("  {kind} {total} ({})", shown.join(", "));

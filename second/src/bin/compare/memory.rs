@@ -85,11 +85,13 @@ impl<T: Element> Fenced<T> {
         Fenced { all, len }
     }
 
-    /// The first `len` of the contents; they go on in the fence behind.
+    /// The first `len` of the contents; longer ones go on in the fence behind.
     pub fn cut(rng: &mut Rng, contents: &[T], len: usize) -> Self {
         let mut cut = Fenced::new(rng, contents, len);
-        let end = contents.len().min(len + FENCE);
-        cut.all[FENCE + len..FENCE + end].copy_from_slice(&contents[len..end]);
+        let behind = cut.all[FENCE + len..].iter_mut();
+        for (element, &value) in behind.zip(contents.iter().skip(len)) {
+            *element = value;
+        }
         cut
     }
 

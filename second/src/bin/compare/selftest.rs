@@ -3,7 +3,7 @@
 //! fault that it then has; `compare` must find each of them.
 
 use crate::{selftest_criteria, selftest_frozen, selftest_scaling};
-use second::{Channel, Lent, Refusal, Settings, Tally};
+use second::{Channel, Lent, Refusal, Settings};
 use std::slice::{from_raw_parts, from_raw_parts_mut};
 use std::sync::OnceLock;
 
@@ -173,13 +173,13 @@ pub unsafe fn slice_mut<'a, T>(raw: Raw<T>) -> &'a mut [T] {
 }
 
 /// The slices of a decoder call.
-struct Decoding<'a> {
-    settings: &'a [u32],
-    mask: &'a [u8],
-    llr: &'a [i16],
-    lent: Lent<'a>,
-    iterations: *mut u32,
-    reason: *mut u32,
+pub struct Decoding<'a> {
+    pub settings: &'a [u32],
+    pub mask: &'a [u8],
+    pub llr: &'a [i16],
+    pub lent: Lent<'a>,
+    pub iterations: *mut u32,
+    pub reason: *mut u32,
 }
 
 impl Decoding<'_> {
@@ -217,7 +217,7 @@ impl Decoding<'_> {
     }
 
     /// The whole call.
-    unsafe fn run(&mut self) -> u32 {
+    pub unsafe fn run(&mut self) -> u32 {
         let Some(settings) = self.settings() else {
             return 7;
         };
@@ -285,84 +285,4 @@ unsafe extern "C" fn vedrogne_decode(
         reason,
     };
     call.run()
-}
-
-/// # Safety
-/// As in the C interface.
-#[no_mangle]
-unsafe extern "C" fn vedrogne_decode_tallied(
-    tally: *mut u32,
-    tally_len: usize,
-    settings: *const u32,
-    settings_len: usize,
-    mask: *const u8,
-    mask_len: usize,
-    llr: *const i16,
-    llr_len: usize,
-    soft: *mut i16,
-    soft_len: usize,
-    mark: *mut u8,
-    mark_len: usize,
-    coded_soft: *mut i16,
-    coded_soft_len: usize,
-    coded_mark: *mut u8,
-    coded_mark_len: usize,
-    work: *mut i16,
-    work_len: usize,
-    iterations: *mut u32,
-    reason: *mut u32,
-) -> u32 {
-    let lent = Lent {
-        soft: slice_mut((soft, soft_len)),
-        mark: slice_mut((mark, mark_len)),
-        coded_soft: slice_mut((coded_soft, coded_soft_len)),
-        coded_mark: slice_mut((coded_mark, coded_mark_len)),
-        work: slice_mut((work, work_len)),
-    };
-    let call = Decoding {
-        settings: slice((settings, settings_len)),
-        mask: slice((mask, mask_len)),
-        llr: slice((llr, llr_len)),
-        lent,
-        iterations,
-        reason,
-    };
-    run_tallied(slice_mut((tally, tally_len)), call)
-}
-
-unsafe fn run_tallied(tally: &mut [u32], mut call: Decoding) -> u32 {
-    if tally.len() < 5 || call.settings.len() < 6 {
-        return 7;
-    }
-    let before = crate::calls::tally_of(tally).unwrap_or_default();
-    if !may_count(&before) {
-        return 15;
-    }
-    let answer = call.run();
-    count(tally, answer, *call.iterations, *call.reason);
-    answer
-}
-
-fn may_count(tally: &Tally) -> bool {
-    if wrong("tally_wraps") {
-        let endings = tally.reason1.wrapping_add(tally.reason2);
-        return tally.blocks < 1_000_000
-            && tally.blocks == endings.wrapping_add(tally.refusals)
-            && tally.iterations >= endings
-            && tally.iterations <= endings.wrapping_mul(200);
-    }
-    if wrong("tally_full") && tally.blocks == 1_000_000 {
-        return true;
-    }
-    tally.may_count()
-}
-
-fn count(tally: &mut [u32], answer: u32, iterations: u32, reason: u32) {
-    tally[0] = tally[0].wrapping_add(1);
-    if answer != 0 {
-        tally[3] = tally[3].wrapping_add(1);
-    } else {
-        tally[reason as usize] = tally[reason as usize].wrapping_add(1);
-        tally[4] = tally[4].wrapping_add(iterations);
-    }
 }

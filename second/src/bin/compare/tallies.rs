@@ -1,7 +1,7 @@
-//! Tallies: right ones, ones at the bounds of refusal 15, and wild ones.
+//! Tallies that a call may be counted in, and such as are refused with 15.
 
-use crate::memory::Fenced;
 use crate::rng::Rng;
+use second::Tally;
 
 /// A right tally of the given number of endings and refusals, with iterations
 /// at a bound or between.
@@ -51,7 +51,7 @@ fn at_a_bound(rng: &mut Rng) -> [i64; 5] {
     tally
 }
 
-/// Fields that only fit when sums are cut to 32 bits.
+/// Numbers that only fit when sums are cut to 32 bits.
 fn wrapping(rng: &mut Rng) -> [i64; 5] {
     let mut tally = any_right(rng);
     let shift = rng.between(1, 0xffff_ffff);
@@ -64,21 +64,48 @@ fn wrapping(rng: &mut Rng) -> [i64; 5] {
     tally
 }
 
-/// A tally for one call, with the length of its slice.
-pub fn draw_tally(rng: &mut Rng) -> Fenced<u32> {
-    let numbers = match rng.below(10) {
-        0 => [0; 5],
-        1..=4 => any_right(rng),
-        5 | 6 => at_a_bound(rng),
-        7 => wrapping(rng),
-        8 => [0; 5].map(|_| rng.between(0xffff_ff00, 0xffff_ffff)),
-        _ => [0; 5].map(|_| rng.between(0, 0xffff_ffff)),
-    };
-    let numbers = numbers.map(|v| v as u32);
-    let len = match rng.below(20) {
-        0 => rng.below(5),
-        1..=4 => 5 + rng.below(5),
-        _ => 5,
-    };
-    Fenced::new(rng, &numbers, len)
+/// A tally that a call may be counted in.
+pub fn usable(rng: &mut Rng) -> [u32; 5] {
+    if rng.chance(20) {
+        return [0; 5];
+    }
+    any_right(rng).map(|v| v as u32)
+}
+
+/// A tally that refuses every call with 15.
+pub fn unusable(rng: &mut Rng) -> [u32; 5] {
+    loop {
+        let numbers = match rng.below(10) {
+            0..=4 => at_a_bound(rng),
+            5..=7 => wrapping(rng),
+            8 => [0; 5].map(|_| rng.between(0xffff_ff00, 0xffff_ffff)),
+            _ => [0; 5].map(|_| rng.between(0, 0xffff_ffff)),
+        };
+        let numbers = numbers.map(|v| v as u32);
+        if !Tally::from_list(numbers).may_count() {
+            return numbers;
+        }
+    }
+}
+
+/// What the tallies of a list hold, apart from one that is drawn on its own.
+#[derive(Clone, Copy)]
+pub enum Others {
+    Zeros,
+    Usable,
+    Unusable,
+    Either,
+    Noise,
+}
+
+/// One tally of such a list.
+pub fn draw_other(rng: &mut Rng, others: Others) -> [u32; 5] {
+    match others {
+        Others::Zeros => [0; 5],
+        Others::Usable => usable(rng),
+        Others::Unusable => unusable(rng),
+        Others::Either if rng.chance(50) => usable(rng),
+        Others::Either => unusable(rng),
+        Others::Noise => [0; 5].map(|_| rng.next() as u32),
+    }
 }
