@@ -1,5 +1,5 @@
 //! A second coder, channel front, decoder, report and tidy writer for polar
-//! blocks, with a tally for each radio.
+//! blocks, with a tally for each radio and a summary of these.
 //!
 //! Written from document 01 of the tender (`01-scope.md`) and the change
 //! requests to it, not from the proved code. It exists to be compared with the
@@ -17,6 +17,7 @@ pub mod messages;
 pub mod radios;
 pub mod refusal;
 pub mod report;
+pub mod summary;
 pub mod tally;
 pub mod text;
 pub mod tidy;
@@ -27,12 +28,15 @@ pub use front::{front, Channel};
 pub use radios::{decode_radio, Radios, RADIOS};
 pub use refusal::Refusal;
 pub use report::report;
+pub use summary::summary;
 pub use tally::Tally;
 pub use text::read;
 pub use tidy::{tidy, write};
 
 #[cfg(test)]
 mod radios_tests;
+#[cfg(test)]
+mod summary_tests;
 #[cfg(test)]
 mod tests;
 #[cfg(test)]

@@ -89,18 +89,22 @@ fn read_positions(n: usize, mut rest: &[u8]) -> Result<(Vec<i64>, Vec<i64>), Ref
 }
 
 /// One line without its byte 10, and what follows that byte.
-fn take_line(bytes: &[u8]) -> Result<(&[u8], &[u8]), Refusal> {
+pub fn take_line(bytes: &[u8]) -> Result<(&[u8], &[u8]), Refusal> {
     let end = bytes.iter().position(|&b| b == b'\n');
     let end = end.ok_or(Refusal::Text)?;
     Ok((&bytes[..end], &bytes[end + 1..]))
 }
 
-/// Exactly COUNT values, parted by one or more spaces, none at either end.
-fn read_values<const COUNT: usize>(line: &[u8]) -> Result<[i64; COUNT], Refusal> {
+/// The words of a line, parted by one or more spaces, none at either end.
+pub fn words(line: &[u8]) -> Result<impl Iterator<Item = &[u8]>, Refusal> {
     let outer = line.first() == Some(&b' ') || line.last() == Some(&b' ');
     require(!outer, Refusal::Text)?;
-    let words = line.split(|&b| b == b' ').filter(|word| !word.is_empty());
-    let values: Vec<i64> = words.map(read_value).collect::<Result<_, _>>()?;
+    Ok(line.split(|&b| b == b' ').filter(|word| !word.is_empty()))
+}
+
+/// Exactly COUNT values.
+fn read_values<const COUNT: usize>(line: &[u8]) -> Result<[i64; COUNT], Refusal> {
+    let values: Vec<i64> = words(line)?.map(read_value).collect::<Result<_, _>>()?;
     values.try_into().map_err(|_| Refusal::Text)
 }
 

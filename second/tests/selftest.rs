@@ -90,6 +90,51 @@ const FAULTS: &[&str] = &[
     "report_criterion_4",
 ];
 
+/// Faults of a summary program.
+const SUMMARY_FAULTS: &[&str] = &[
+    "summary_longer",
+    "summary_shorter",
+    "summary_names",
+    "summary_text_first",
+    "summary_empty_line",
+    "summary_16_early",
+    "summary_radio_64",
+    "summary_radio_twice",
+    "summary_any_order",
+    "summary_15_before_16",
+    "summary_15_before_order",
+    "summary_full_refused",
+    "summary_one_block_more",
+    "summary_sum",
+    "summary_few_iterations",
+    "summary_many_iterations",
+    "summary_line_end",
+    "summary_outer_spaces",
+    "summary_tab",
+    "summary_one_space",
+    "summary_seven_values",
+    "summary_minus_zero",
+    "summary_plus",
+    "summary_ten_digits",
+    "summary_eight_digits",
+    "summary_empty_radios",
+    "summary_order_as_printed",
+    "summary_tie_by_mean",
+    "summary_tie_by_number",
+    "summary_tie_by_radio",
+    "summary_strongest_first",
+    "summary_fewer_iterations_first",
+    "summary_larger_radio_first",
+    "summary_half_even",
+    "summary_half_down",
+    "summary_up",
+    "summary_down",
+    "summary_share_of_endings",
+    "summary_mean_of_blocks",
+    "summary_mean_0",
+    "summary_limit",
+];
+
 /// Faults that break what is said of a call on its own.
 const UNCERTAIN: &[&str] = &[
     "frozen_sum",
@@ -107,23 +152,25 @@ fn is_disagreement(fault: &str) -> bool {
 
 const REPORT: &str = env!("CARGO_BIN_EXE_report");
 const TIDY: &str = env!("CARGO_BIN_EXE_tidy");
+const RADIOS: &str = env!("CARGO_BIN_EXE_radios");
+const WRONG_RADIOS: &str = env!("CARGO_BIN_EXE_wrong_radios");
 
-fn run(fault: &str, report: &str, tidy: &str) -> Output {
+fn run(fault: &str, programs: [&str; 3]) -> Output {
     let mut command = Command::new(env!("CARGO_BIN_EXE_compare"));
     command.env("VEDROGNE_WRONG", fault);
-    let output = command.args(["7", "10000", report, tidy]).output();
+    let output = command.args(["7", "10000"]).args(programs).output();
     output.expect("compare runs")
 }
 
-fn exit_code(report: &str, tidy: &str) -> Option<i32> {
-    run("", report, tidy).status.code()
+fn exit_code(programs: [&str; 3]) -> Option<i32> {
+    run("", programs).status.code()
 }
 
 /// Calls for a radio with each combination of reasons to be refused are among
 /// the calls.
 #[test]
 fn no_fault_no_difference() {
-    let output = run("", REPORT, TIDY);
+    let output = run("", [REPORT, TIDY, RADIOS]);
     assert_eq!(output.status.code(), Some(0));
     let told = String::from_utf8_lossy(&output.stdout);
     let combinations = told.matches("calls for a radio, reasons to refuse: ");
@@ -133,7 +180,7 @@ fn no_fault_no_difference() {
 #[test]
 fn every_fault_is_found() {
     for fault in FAULTS {
-        let output = run(fault, REPORT, TIDY);
+        let output = run(fault, [REPORT, TIDY, RADIOS]);
         assert_eq!(output.status.code(), Some(1), "{fault}");
         let told = String::from_utf8_lossy(&output.stdout);
         let uncertain = told.contains("a frozen position is not certain");
@@ -146,13 +193,25 @@ fn every_fault_is_found() {
 #[test]
 fn a_wrong_report_is_found() {
     for program in ["/bin/cat", "/bin/true", TIDY] {
-        assert_eq!(exit_code(program, TIDY), Some(1), "{program}");
+        assert_eq!(exit_code([program, TIDY, RADIOS]), Some(1), "{program}");
     }
 }
 
 #[test]
 fn a_wrong_tidy_text_is_found() {
     for program in ["/bin/cat", "/bin/true", REPORT] {
-        assert_eq!(exit_code(REPORT, program), Some(1), "{program}");
+        assert_eq!(exit_code([REPORT, program, RADIOS]), Some(1), "{program}");
+    }
+}
+
+#[test]
+fn a_wrong_summary_is_found() {
+    for program in ["/bin/cat", "/bin/true", REPORT] {
+        assert_eq!(exit_code([REPORT, TIDY, program]), Some(1), "{program}");
+    }
+    assert_eq!(exit_code([REPORT, TIDY, WRONG_RADIOS]), Some(0));
+    for fault in SUMMARY_FAULTS {
+        let output = run(fault, [REPORT, TIDY, WRONG_RADIOS]);
+        assert_eq!(output.status.code(), Some(1), "{fault}");
     }
 }

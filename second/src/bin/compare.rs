@@ -1,10 +1,11 @@
-//! Compares the library linked under the C names, a report program and a tidy
-//! program with the second library, on random calls.
+//! Compares the library linked under the C names, and the programs that report
+//! on a block, tidy its text and summarize radios, with the second library, on
+//! random calls and texts.
 //!
 //! ```text
-//! compare SEED COUNT [REPORT [TIDY]]          comparisons 0 to COUNT-1
-//! compare --one SEED INDEX [REPORT [TIDY]]    that comparison alone, its calls printed
-//! compare --loud SEED COUNT [REPORT [TIDY]]   tells each index first, to find a crash
+//! compare SEED COUNT [REPORT [TIDY [RADIOS]]]   comparisons 0 to COUNT-1
+//! compare --one SEED INDEX [REPORT ...]         that comparison alone, its calls printed
+//! compare --loud SEED COUNT [REPORT ...]        tells each index first, to find a crash
 //! ```
 //!
 //! Without a program its comparisons are left out.
@@ -34,6 +35,8 @@ mod frozen;
 mod generate;
 #[path = "compare/judge.rs"]
 mod judge;
+#[path = "compare/lists.rs"]
+mod lists;
 #[cfg_attr(not(any(archive, feature = "selftest")), allow(dead_code))]
 #[path = "compare/memory.rs"]
 mod memory;
@@ -102,7 +105,7 @@ fn read_request() -> Option<Request> {
     if one || loud {
         words.remove(0);
     }
-    if !(2..=4).contains(&words.len()) {
+    if !(2..=5).contains(&words.len()) {
         return None;
     }
     let seed = words[0].parse().ok()?;
@@ -112,23 +115,19 @@ fn read_request() -> Option<Request> {
     } else {
         0..number
     };
-    let programs = Programs {
-        report: words.get(2).cloned(),
-        tidy: words.get(3).cloned(),
-    };
     Some(Request {
         one,
         loud,
         seed,
         indices,
-        programs,
+        programs: Programs::from_list(&words[2..]),
     })
 }
 
 fn main() -> ExitCode {
     let Some(request) = read_request() else {
-        eprintln!("usage: compare [--loud] SEED COUNT [REPORT [TIDY]]");
-        eprintln!("       compare --one SEED INDEX [REPORT [TIDY]]");
+        eprintln!("usage: compare [--loud] SEED COUNT [REPORT [TIDY [RADIOS]]]");
+        eprintln!("       compare --one SEED INDEX [REPORT [TIDY [RADIOS]]]");
         return ExitCode::from(2);
     };
     let (seed, programs) = (request.seed, &request.programs);
@@ -140,12 +139,9 @@ fn main() -> ExitCode {
             eprintln!("comparison {index}");
         }
         if let Err(difference) = comparing::compare_one(seed, index, programs, &mut judge) {
-            let given = [&programs.report, &programs.tidy].map(|p| p.as_deref().unwrap_or(""));
             println!("DIFFERENCE in comparison {index} of seed {seed}");
-            println!(
-                "again with: compare --one {seed} {index} {}",
-                given.join(" ")
-            );
+            let given = programs.list().join(" ");
+            println!("again with: compare --one {seed} {index} {given}");
             println!("{}", difference.0);
             return ExitCode::from(1);
         }

@@ -4,7 +4,7 @@ use crate::calls::DecodeCall;
 use crate::generate::*;
 use crate::judge::{Difference, Judge};
 use crate::plan::{draw_m, CRITERION};
-use crate::programs::{check_report, check_tidy, Programs};
+use crate::programs::{check_radios, check_report, check_tidy, Programs};
 use crate::radio_draws::draw_for_radio;
 use crate::rng::Rng;
 use crate::text_draws::{draw_read, draw_report, draw_write};
@@ -19,7 +19,7 @@ pub fn compare_one(
 ) -> Result<(), Difference> {
     let mut rng = Rng::for_comparison(seed, index);
     let rng = &mut rng;
-    match rng.below(133) {
+    match rng.below(145) {
         0..=11 => judge.check(&draw_encode(rng)).map(|_| ()),
         12..=19 => judge.check(&draw_read_out(rng)).map(|_| ()),
         20..=41 => judge.check(&draw_front(rng)).map(|_| ()),
@@ -37,7 +37,8 @@ pub fn compare_one(
         105..=110 => check_report_call(rng, judge),
         111..=112 => spellings::check(rng, judge),
         113..=124 => check_report(rng, judge, programs.report.as_deref()),
-        _ => check_tidy(rng, judge, programs.tidy.as_deref()),
+        125..=132 => check_tidy(rng, judge, programs.tidy.as_deref()),
+        _ => check_radios(rng, judge, programs.radios.as_deref()),
     }
 }
 

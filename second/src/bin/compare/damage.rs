@@ -2,6 +2,17 @@
 
 use crate::rng::Rng;
 
+/// What may be put behind the end of a text.
+const BEHIND: [&[u8]; 7] = [
+    b"\n",
+    b" ",
+    b"0",
+    b"\0",
+    b"2 0 0\n",
+    b"63 0 0 0 0 0\n",
+    b"#",
+];
+
 /// The text with one damage of a random kind.
 pub fn damage(rng: &mut Rng, mut text: Vec<u8>) -> Vec<u8> {
     if text.is_empty() {
@@ -20,7 +31,7 @@ pub fn damage(rng: &mut Rng, mut text: Vec<u8>) -> Vec<u8> {
         7 => {
             text.pop();
         }
-        8 => text.extend_from_slice(rng.pick(&[&b"\n"[..], b" ", b"0", b"\0", b"2 0 0\n", b"#"])),
+        8 => text.extend_from_slice(rng.pick(&BEHIND)),
         9..=12 => {
             let place = draw_value(rng, &text).unwrap_or(place);
             replace_value(rng, &mut text, place);
@@ -87,9 +98,11 @@ fn same_value(rng: &mut Rng, word: &[u8]) -> Vec<u8> {
         .map(|&b| char::from(b))
         .collect();
     let sign = if minus { "-" } else { "" };
+    // The most digits that a block's text and a list of radios may have, and one more.
+    let most = rng.pick(&[6, 9]);
     let form = match rng.below(9) {
-        0 => format!("{sign}{digits:0>6}"),
-        1 | 2 => format!("{sign}{digits:0>7}"),
+        0 => format!("{sign}{digits:0>most$}"),
+        1 | 2 => format!("{sign}{digits:0>0$}", most + 1),
         3 => format!("+{digits}"),
         4 => format!("{sign}+{digits}"),
         5 => format!("-{sign}{digits}"),

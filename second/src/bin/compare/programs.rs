@@ -1,6 +1,7 @@
-//! The report program and the tidy program on random texts.
+//! The programs on random texts.
 
 use crate::judge::{Difference, Judge};
+use crate::lists::draw_list;
 use crate::rng::Rng;
 use crate::texts::draw_text;
 use second::text::MOST_BYTES;
@@ -11,6 +12,24 @@ use std::process::{Command, Output, Stdio};
 pub struct Programs {
     pub report: Option<String>,
     pub tidy: Option<String>,
+    pub radios: Option<String>,
+}
+
+impl Programs {
+    /// In the order of the arguments of `compare`.
+    pub fn from_list(list: &[String]) -> Self {
+        Programs {
+            report: list.first().cloned(),
+            tidy: list.get(1).cloned(),
+            radios: list.get(2).cloned(),
+        }
+    }
+
+    /// Those that are given, as arguments again.
+    pub fn list(&self) -> Vec<String> {
+        let all = [&self.report, &self.tidy, &self.radios];
+        all.into_iter().flatten().cloned().collect()
+    }
 }
 
 /// Draws a text and compares the report that the program prints.
@@ -37,6 +56,16 @@ pub fn check_tidy(
         check(judge, "tidy", program, &tidy, &tidy)?;
     }
     Ok(())
+}
+
+/// Draws a list of radios and compares the summary that the program prints.
+pub fn check_radios(
+    rng: &mut Rng,
+    judge: &mut Judge,
+    program: Option<&str>,
+) -> Result<(), Difference> {
+    let text = draw_list(rng);
+    check(judge, "radios", program, &text, &second::summary(&text))
 }
 
 /// Hands the text to the program and compares what it printed.

@@ -7,7 +7,7 @@ use crate::rng::Rng;
 use second::text::{MOST_BYTES, POSITION_NAMES, SETTING_NAMES};
 
 /// Sizes of long texts, most of them at the bound.
-const LONG: [usize; 6] = [
+pub const LONG: [usize; 6] = [
     MOST_BYTES - 1,
     MOST_BYTES,
     MOST_BYTES,
@@ -128,8 +128,11 @@ fn pad(rng: &mut Rng, lines: &mut [Vec<u8>], target: usize) {
     } else {
         3 + rng.below(lines.len() - 3)
     };
-    let line = &mut lines[line];
+    widen_line(&mut lines[line], target - size);
+}
+
+/// Puts so many more spaces before the second value of a line.
+pub fn widen_line(line: &mut Vec<u8>, more: usize) {
     let place = line.iter().position(|&b| b == b' ').unwrap_or(0);
-    let spaces = std::iter::repeat_n(b' ', target - size);
-    line.splice(place..place, spaces);
+    line.splice(place..place, std::iter::repeat_n(b' ', more));
 }
