@@ -24,8 +24,8 @@ struct Run {
     list: Vec<u32>,
 }
 
-/// Most runs start with zeros, the others with anything, so that calls are
-/// refused with 15 from the beginning or later.
+/// Half of the runs start with zeros, the others with anything, so that calls
+/// are refused with 15 from the beginning or later.
 pub fn check(rng: &mut Rng, judge: &mut Judge) -> Result<(), Difference> {
     let others = rng.pick(&[Others::Zeros, Others::Zeros, Others::Usable, Others::Either]);
     let start: Vec<Tally> = (0..RADIOS)
