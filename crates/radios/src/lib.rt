@@ -2,9 +2,11 @@
 // It sees `calls`, `settings`, `decoder` and `tally`. It promises the decoder's answer and slices, all 64 tallies with
 // that answer counted in the radio's own, and, where 16 or 15 refuses the call, that nothing has changed.
 ghost use mathlib.Core.Path.{_≡_};
+ghost use Prim.Native.Nat.{_<_};
 ghost use lib.Dec.{ltb};
+ghost use lib.ListN.{set};
 ghost use Rattle.settings.specs.Slices.{slices};
-ghost use Rattle.radios.specs.Radios.{radioCount, RadioDecode};
+ghost use Rattle.radios.specs.Radios.{radioCount, tallyOf, RadioDecode};
 ghost use Rattle.radios.specs.Runs.{noBlocks};
 use calls::Refusal;
 use decoder::Outcome;
@@ -42,6 +44,23 @@ impl Radios {
         }
     }
 
+    fn tally_of(self, radio: usize) -> Tally
+        requires { ⌜ radio < radioCount ⌝ }
+        ensures { λ r. ⌜ r ≡ tallyOf radio (self .tallies) ⌝ }
+    {
+        self.tallies[radio]
+    }
+
+    // With another tally of one radio.
+    fn with_tally(self, radio: usize, tally: Tally) -> Radios
+        requires { ⌜ radio < radioCount ⌝ }
+        ensures { λ r. ⌜ r .tallies ≡ set (self .tallies) radio tally ⌝ }
+    {
+        let mut radios = self;
+        radios.tallies[radio] = tally;
+        radios
+    }
+
     // A decode whose answer is counted in the tally of its radio. 16 is tested first, then 15, which looks at that tally
     // alone; after either all tallies come back unchanged, and nothing is written.
     pub fn decode(
@@ -70,8 +89,7 @@ impl Radios {
             };
         }
         let at = radio as usize;
-        let own = self.tallies[at];
-        let tallied = own.decode(
+        let tallied = self.tally_of(at).decode(
             settings,
             mask,
             llr,
@@ -83,8 +101,7 @@ impl Radios {
         );
         let counts = tallied.tally;
         let outcome = tallied.outcome;
-        let mut radios = self;
-        radios.tallies[at] = counts;
+        let radios = self.with_tally(at, counts);
         RadioTallied { radios, outcome }
     }
 }

@@ -2,6 +2,7 @@
 use Prim.Native.Nat.{_<_}
 use mathlib.Core.Path.{_≡_, refl, sym, _∙_}
 use mathlib.Core.Bool.{true}
+use native.Mathlib.Omega.{arith}
 use lib.Dec.{ltb}
 use borrow.Author.Needs.{needs}
 use borrow.Author.Tests.{ltb-true, not-true, not-false}
@@ -29,13 +30,6 @@ module _ (c : tie.Else1) where
   inside : start .args .radio < radioCount
   inside = ltb-true (start .args .radio) radioCount some
 
-module _ (c : tie.After-counts) where
-  abbrev decoded : tie.After-decode
-  decoded = c .before .before .before .before .before .before .before .before
-
-  abbrev tested : tie.Else1
-  tested = decoded .before .before .before .before .before .before .before
-
 is-radio-requires : tie.Need-is-radio-requires
 is-radio-requires c κs = search needs
 
@@ -43,23 +37,20 @@ returns : tie.Need-returns
 returns c =
     let s = c .before .before .before .before .before in
     let a = s .args in
-    radio-refused (a .t1) (a .radio) (a .settings) (now (a .mask)) (now (a .llr)) (lent s)
+    radio-refused (a .self) (a .radio) (a .settings) (now (a .mask)) (now (a .llr)) (lent s)
     (sym (c .before .is-radio .ensures) ∙ not-true (c .before .is-radio .result) (c .if1 .taken))
 
-mul-own : tie.Need-mul-own
-mul-own c = search needs
-
-element-copy-out-own : tie.Need-element-copy-out-own
-element-copy-out-own c = inside c
+tally-of-requires : tie.Need-tally-of-requires
+tally-of-requires c κs = omega (arith, inside c)
 
 decode-requires : tie.Need-decode-requires
 decode-requires c κs = search needs
 
-mul-counts : tie.Need-mul-counts
-mul-counts c = search needs
-
-element-set-from-counts : tie.Need-element-set-from-counts
-element-set-from-counts c = inside (tested c)
+with-tally-requires : tie.Need-with-tally-requires
+with-tally-requires c κs =
+    let known = c .before .before .before .before .before .before .before .before .before .before .before .before .before
+    .before .before in
+    omega (arith, inside known)
 
 same-length : tie.Need-same-length
 same-length c = search needs
@@ -78,10 +69,12 @@ same-length-5 c = search needs
 
 returns-2 : tie.Need-returns-2
 returns-2 c =
-    let e = tested c in
-    let a = start e .args in
-    radio-tallied (a .t1) (a .radio) (a .settings) (now (a .mask)) (now (a .llr)) (lent (start e))
-    (some e) (decoded c .decode .ensures) refl refl
+    let decoded = c .before .before .before .before .before .before .before .before .before in
+    let own = decoded .before .before .before .before .before .before in
+    let known = own .before in
+    let a = start known .args in
+    radio-tallied (a .self) (a .radio) (a .settings) (now (a .mask)) (now (a .llr)) (lent (start known))
+    (some known) (own .tally-of .ensures) (decoded .decode .ensures) refl (c .with-tally .ensures)
 
 pub decode-spec : {M : Type 1} → statement M
 decode-spec =
@@ -89,11 +82,9 @@ decode-spec =
     (tie.spec
     is-radio-requires
     returns
-    mul-own
-    element-copy-out-own
+    tally-of-requires
     decode-requires
-    mul-counts
-    element-set-from-counts
+    with-tally-requires
     same-length
     same-length-2
     same-length-3
