@@ -85,12 +85,12 @@ first-digit = by-digits FirstDigit small large
     large n h tenth s =
         rw (decimal-large n h, append-assoc (decimal (n / 10)) ((48 + n % 10) ∷ []) s) (tenth ((48 + n % 10) ∷ s))
 
-natural-back : (n : ℕ) (s : List ℕ) → n ≤ 999999 → isDigit (first s) ≡ false → natural (decimal n ++ s) ≡ found n s
+natural-back : (n : ℕ) (s : List ℕ) → n ≤ 999999 → isDigit (first s) ≡ false → natural 6 (decimal n ++ s) ≡ found n s
 natural-back n s h e =
     let short = decimal-length 5 n (omega arith) in
     let left = 6 - length (decimal n) in
     let six : length (decimal n) + left ≡ 6 = omega arith in
-    natural-found (decimal n ++ s) n s (first-digit n s)
+    natural-found 6 (decimal n ++ s) n s (first-digit n s)
     (rw (← six) (digits-back n left s ∙ digits-end left n s e))
 
 -- no digit is a minus or a space

@@ -9,6 +9,8 @@ use Rattle.scan.specs.Numbers.{number}
 use Rattle.scan.specs.Lines.{separator}
 use Rattle.scan.specs.declared.Value.{Value}
 use Rattle.scan.specs.declared.Value.the-variants.{Found, Missing}
+use Rattle.scan.specs.declared.Item.{Item}
+use Rattle.scan.specs.declared.Item.the-variants.{Count, NoCount}
 use Rattle.scan.specs.declared.Next.{Next}
 use Rattle.scan.specs.declared.Next.the-variants.{At, Malformed}
 
@@ -17,6 +19,10 @@ use Rattle.scan.specs.declared.Next.the-variants.{At, Malformed}
 abbrev pub valueRead : List ℕ → Value → Reading ℤ
 valueRead t (Found z next) = found z (drop next t)
 valueRead t Missing = malformed
+
+abbrev pub itemRead : List ℕ → Item → Reading ℕ
+itemRead t (Count v next) = found v (drop next t)
+itemRead t NoCount = malformed
 
 module _ {A : Type 0} where
   -- a position, with what was read up to it
@@ -29,6 +35,10 @@ module _ {A : Type 0} where
 abbrev pub ValueWithin : List ℕ → Value → Type 0
 ValueWithin t (Found z next) = next ≤ length t
 ValueWithin t Missing = Unit
+
+abbrev pub ItemWithin : List ℕ → Item → Type 0
+ItemWithin t (Count v next) = next ≤ length t
+ItemWithin t NoCount = Unit
 
 abbrev pub NextWithin : List ℕ → Next → Type 0
 NextWithin t (At next) = next ≤ length t

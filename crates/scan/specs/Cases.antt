@@ -7,7 +7,7 @@ use lib.IntN.{ℤ, pos, negsuc}
 use Rattle.calls.specs.Texts.{bytes}
 use Rattle.scan.specs.Reading.{Reading, found, malformed}
 use Rattle.scan.specs.Numbers.{digits, natural, number}
-use Rattle.scan.specs.Lines.{spaces, separator, line, literal}
+use Rattle.scan.specs.Lines.{spaces, separator, line, item, literal}
 use Rattle.scan.specs.Answers.{valuesStored}
 
 abbrev read : ℕ → String → Reading (List ℤ)
@@ -119,6 +119,35 @@ stored-to-the-fault = refl
 stored-to-the-line-end : stored 3 "1 2\n3\n" ≡ pos 1 ∷ []
 unfolding valuesStored number natural digits separator spaces
 stored-to-the-line-end = refl
+
+-- ---- counts
+
+abbrev count : ℕ → String → Reading ℕ
+count n s = item n (bytes s)
+
+nine-digits : count 0 "999999999\n" ≡ found 999999999 []
+unfolding item natural digits separator spaces
+nine-digits = refl
+
+count-before-another : count 1 "007  8\n" ≡ found 7 (bytes "8\n")
+unfolding item natural digits separator spaces
+count-before-another = refl
+
+ten-digits : count 0 "0000000001\n" ≡ malformed
+unfolding item natural digits separator spaces
+ten-digits = refl
+
+count-with-minus : count 0 "-1\n" ≡ malformed
+unfolding item natural digits separator spaces
+count-with-minus = refl
+
+no-count : count 1 "\n" ≡ malformed
+unfolding item natural digits separator spaces
+no-count = refl
+
+line-end-too-early : count 1 "1\n2\n" ≡ malformed
+unfolding item natural digits separator spaces
+line-end-too-early = refl
 
 -- ---- fixed texts
 

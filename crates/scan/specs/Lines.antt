@@ -6,7 +6,7 @@ use mathlib.Core.List.{List, [], _∷_}
 use lib.Dec.{eqb}
 use lib.IntN.{ℤ}
 use Rattle.scan.specs.Reading.{Reading, found, malformed, bind, first, rest}
-use Rattle.scan.specs.Numbers.{number}
+use Rattle.scan.specs.Numbers.{natural, number}
 
 -- the text behind its leading spaces, bytes 32
 unfoldable pub spaces : List ℕ → List ℕ
@@ -26,6 +26,12 @@ line (suc n) s =
     bind (number s) (λ z s.
     bind (separator n s) (λ _ s.
     bind (line n s) (λ zs s. found (z ∷ zs) s)))
+
+-- request 2026-05, a count in a line of counts: 1 to 9 digits, and what stands behind them with n more to come
+unfoldable pub item : ℕ → List ℕ → Reading ℕ
+item n s =
+    bind (natural 9 s) (λ v s.
+    bind (separator n s) (λ _ s. found v s))
 
 -- exactly these bytes
 unfoldable pub literal : List ℕ → List ℕ → Reading Unit

@@ -15,13 +15,13 @@ unfoldable pub digits : ℕ → ℕ → List ℕ → Reading ℕ
 digits zero v s = found v s
 digits (suc k) v s = cond (isDigit (first s)) (digits k (10 * v + (first s - 48)) (rest s)) (found v s)
 
--- 1 to 6 digits
-unfoldable pub natural : List ℕ → Reading ℕ
-natural s = cond (isDigit (first s)) (digits 6 0 s) malformed
+-- 1 to k digits
+unfoldable pub natural : ℕ → List ℕ → Reading ℕ
+natural k s = cond (isDigit (first s)) (digits k 0 s) malformed
 
--- with an optional minus, byte 45
+-- 1 to 6 digits with an optional minus, byte 45
 unfoldable pub number : List ℕ → Reading ℤ
 number s =
     cond (eqb (first s) 45)
-    (bind (natural (rest s)) (λ n s. found (negℤ (pos n)) s))
-    (bind (natural s) (λ n s. found (pos n) s))
+    (bind (natural 6 (rest s)) (λ n s. found (negℤ (pos n)) s))
+    (bind (natural 6 s) (λ n s. found (pos n) s))

@@ -16,7 +16,7 @@ use Rattle.calls.specs.LentMemoryLaws.{written-sets, written-behind}
 use Rattle.calls.specs.SignLaws.{size-neg}
 use Rattle.scan.specs.Reading.{Reading, found, malformed, bind, ifFound, first, rest}
 use Rattle.scan.specs.Numbers.{isDigit, digits, natural, number}
-use Rattle.scan.specs.Lines.{spaces, separator, line, literal}
+use Rattle.scan.specs.Lines.{spaces, separator, line, item, literal}
 use Rattle.scan.specs.Answers.{valuesStored}
 
 -- ---- one reading after another
@@ -87,6 +87,12 @@ largest-value-rises : (k v w : ℕ) → v ≤ w → largestValue k v ≤ largest
 largest-value-rises zero v w h = h
 largest-value-rises (suc k) v w h = largest-value-rises k (10 * v + 9) (10 * w + 9) (omega arith)
 
+largest-value-longer : (k j v : ℕ) → k ≤ j → largestValue k v ≤ largestValue j v
+largest-value-longer zero zero v h = omega arith
+largest-value-longer zero (suc j) v h = omega (arith, largest-value-longer 0 j (10 * v + 9) (omega arith))
+largest-value-longer (suc k) zero v h = absurd (omega arith)
+largest-value-longer (suc k) (suc j) v h = largest-value-longer k j (10 * v + 9) (omega arith)
+
 -- the number that digits have found, as they always do
 abbrev value : Reading ℕ → ℕ
 value (found n s) = n
@@ -108,35 +114,39 @@ value-bounds (suc k) v s = split (isDigit (first s)) refl (λ w u. value-bounds 
         (omega arith, omega (arith, largest-value-rises k w (10 * v + 9) (omega arith)))
     split false e bounds = let b = bounds (10 * v + 9) [] in (omega arith, omega arith)
 
--- a value on the way to six digits has at most six
-pub at-most-six : (k v : ℕ) (s t : List ℕ) → digits 6 0 s ≡ digits k v t → v ≤ 999999
-at-most-six k v s t e = let h = rw e at (value-bounds 6 0 s .1) in omega (arith, value-bounds k v t .0)
+-- a value on the way to j digits has at most j, and where j is at most nine, it has at most nine
+at-most : (j k v : ℕ) (s t : List ℕ) → digits j 0 s ≡ digits k v t → v ≤ largestValue j 0
+at-most j k v s t e = let h = rw e at (value-bounds j 0 s .1) in omega (arith, value-bounds k v t .0)
+
+pub at-most-nine : (j k v : ℕ) (s t : List ℕ) → j ≤ 9 → digits j 0 s ≡ digits k v t → v ≤ 999999999
+at-most-nine j k v s t h e = omega (arith, at-most j k v s t e, largest-value-longer j 9 0 h)
 
 -- ---- values
 
-module _ (s : List ℕ) where
-  pub natural-missing : isDigit (first s) ≡ false → natural s ≡ malformed
+module _ (k : ℕ) (s : List ℕ) where
+  pub natural-missing : isDigit (first s) ≡ false → natural k s ≡ malformed
   unfolding natural
   natural-missing e = rw e
 
-  pub natural-found : (v : ℕ) (u : List ℕ) → isDigit (first s) ≡ true → digits 6 0 s ≡ found v u → natural s ≡ found v u
+  pub natural-found : (v : ℕ) (u : List ℕ) → isDigit (first s) ≡ true → digits k 0 s ≡ found v u
+      → natural k s ≡ found v u
   unfolding natural
   natural-found v u e h = rw e h
 
-pub natural-size : (s : List ℕ) (v : ℕ) (u : List ℕ) → natural s ≡ found v u → v ≤ 999999
+pub natural-size : (s : List ℕ) (v : ℕ) (u : List ℕ) → natural 6 s ≡ found v u → v ≤ 999999
 unfolding natural digits
 natural-size s v u e = split (isDigit (first s)) e
   where
     split : (b : Bool) → cond b (digits 6 0 s) malformed ≡ found v u → v ≤ 999999
-    split true e = at-most-six 0 v s u e
+    split true e = at-most 6 0 v s u e
     split false e = let h : _≡_ {A = ℕ} 0 1 = cc in absurd (omega arith)
 
 pub number-minus : (i : ℕ) (t : List ℕ) → eqb (first (drop i t)) 45 ≡ true →
-    number (drop i t) ≡ bind (natural (drop (i + 1) t)) (λ n s. found (negℤ (pos n)) s)
+    number (drop i t) ≡ bind (natural 6 (drop (i + 1) t)) (λ n s. found (negℤ (pos n)) s)
 unfolding number
 number-minus i t e = rw (e, rest-drop i t)
 
-pub number-plain : (s : List ℕ) → eqb (first s) 45 ≡ false → number s ≡ bind (natural s) (λ n s. found (pos n) s)
+pub number-plain : (s : List ℕ) → eqb (first s) 45 ≡ false → number s ≡ bind (natural 6 s) (λ n s. found (pos n) s)
 unfolding number
 number-plain s e = rw e
 
@@ -165,6 +175,20 @@ pub separator-more : (n : ℕ) (s : List ℕ) → (n ≡ 0 → ⊥)
 unfolding separator
 separator-more zero s h = absurd (h refl)
 separator-more (suc n) s h = refl
+
+module _ (n : ℕ) (s : List ℕ) where
+  pub item-no-digit : natural 9 s ≡ malformed → item n s ≡ malformed
+  unfolding item
+  item-no-digit e = rw e
+
+  module _ (v : ℕ) (u : List ℕ) (e : natural 9 s ≡ found v u) where
+    pub item-no-separator : separator n u ≡ malformed → item n s ≡ malformed
+    unfolding item
+    item-no-separator g = rw (e, g)
+
+    pub item-found : (w : List ℕ) → separator n u ≡ found tt w → item n s ≡ found v w
+    unfolding item
+    item-found w g = rw (e, g)
 
 -- ---- fixed texts
 
@@ -294,13 +318,15 @@ unfolding number
 number-size s z u e = split (eqb (first s) 45) e
   where
     split : (minus : Bool) →
-        cond minus (bind (natural (rest s)) (λ n s. found (negℤ (pos n)) s)) (bind (natural s) (λ n s. found (pos n) s))
+        cond minus
+        (bind (natural 6 (rest s)) (λ n s. found (negℤ (pos n)) s))
+        (bind (natural 6 s) (λ n s. found (pos n) s))
         ≡ found z u → natAbs z ≤ 999999
     split true e =
-        let (n, w, h, g) = bind-found (natural (rest s)) (λ n s. found (negℤ (pos n)) s) z u e in
+        let (n, w, h, g) = bind-found (natural 6 (rest s)) (λ n s. found (negℤ (pos n)) s) z u e in
         let k : negℤ (pos n) ≡ z = cc in rw (← k, size-neg (pos n)) (natural-size (rest s) n w h)
     split false e =
-        let (n, w, h, g) = bind-found (natural s) (λ n s. found (pos n) s) z u e in
+        let (n, w, h, g) = bind-found (natural 6 s) (λ n s. found (pos n) s) z u e in
         let k : pos n ≡ z = cc in rw (← k) (natural-size s n w h)
 
 -- a line that was read begins with a value, and goes on with a line that is one value shorter

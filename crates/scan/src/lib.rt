@@ -10,13 +10,20 @@ ghost use Rattle.calls.specs.LentMemory.{writtenOver};
 ghost use Rattle.calls.specs.Signs.{flipped};
 ghost use Rattle.scan.specs.Reading.{first, found, bind};
 ghost use Rattle.scan.specs.Numbers.{isDigit, digits, natural, number};
-ghost use Rattle.scan.specs.Lines.{spaces, separator, line, literal};
-ghost use Rattle.scan.specs.Answers.{valueRead, readTo, ValueWithin, NextWithin, valuesStored};
+ghost use Rattle.scan.specs.Lines.{spaces, separator, line, item, literal};
+ghost use Rattle.scan.specs.Answers.{valueRead, itemRead, readTo, ValueWithin, ItemWithin, NextWithin};
+ghost use Rattle.scan.specs.Answers.{valuesStored};
 
 // A value and the position behind it.
 pub enum Value {
     Found { value: i32, next: usize },
     Missing,
+}
+
+// A count of a line, and the position behind what follows it.
+pub enum Item {
+    Count(u32, usize),
+    NoCount,
 }
 
 // The position behind what was read.
@@ -73,14 +80,14 @@ fn same_byte(a: u8, b: u8) -> bool
     a == b
 }
 
-// The digits at a position, at most six.
-fn digits(text: &[u8], at: usize) -> Natural
-    requires { ⌜ at ≤ length (now text) ⌝ }
-    ensures { λ r. ⌜ digits 6 0 (drop at (now (text .entry)))
+// The digits at a position, at most `most`.
+fn digits(text: &[u8], at: usize, most: u32) -> Natural
+    requires { ⌜ (at ≤ length (now text)) × (most ≤ 9) ⌝ }
+    ensures { λ r. ⌜ digits most 0 (drop at (now (text .entry)))
         ≡ found (r .value) (drop (r .next) (now (text .entry))) ⌝ }
     ensures { λ r. ⌜ r .next ≤ length (now (text .entry)) ⌝ }
 {
-    let mut left: u32 = 6;
+    let mut left = most;
     let mut value: u32 = 0;
     let mut p = at;
     while 0 < left {
@@ -104,12 +111,12 @@ fn digits(text: &[u8], at: usize) -> Natural
 // One to six digits, with the sign that stood before them.
 fn signed_natural(text: &[u8], at: usize, negative: bool) -> Value
     requires { ⌜ at ≤ length (now text) ⌝ }
-    ensures { λ r. ⌜ bind (natural (drop at (now (text .entry)))) (λ n s. found (flipped negative (pos n)) s)
+    ensures { λ r. ⌜ bind (natural 6 (drop at (now (text .entry)))) (λ n s. found (flipped negative (pos n)) s)
         ≡ valueRead (now (text .entry)) r ⌝ }
     ensures { λ r. ⌜ ValueWithin (now (text .entry)) r ⌝ }
 {
     if is_digit(byte_at(text, at)) {
-        let size = digits(text, at);
+        let size = digits(text, at, 6);
         let value = size.value as i32;
         if negative {
             Value::Found {
@@ -206,6 +213,24 @@ pub fn line(text: &[u8], at: usize, count: usize, values: &mut [i32]) -> Next
         p = next;
     }
     Next::At(p)
+}
+
+// A count of a line of counts with `more` to come behind it.
+pub fn read_item(text: &[u8], at: usize, more: usize) -> Item
+    requires { ⌜ at ≤ length (now text) ⌝ }
+    ensures { λ r. ⌜ item more (drop at (now (text .entry))) ≡ itemRead (now (text .entry)) r ⌝ }
+    ensures { λ r. ⌜ ItemWithin (now (text .entry)) r ⌝ }
+{
+    if is_digit(byte_at(text, at)) {
+        let size = digits(text, at, 9);
+        let behind = size.next;
+        match separator(text, behind, more) {
+            Next::At(next) => Item::Count(size.value, next),
+            Next::Malformed => Item::NoCount,
+        }
+    } else {
+        Item::NoCount
+    }
 }
 
 // A fixed text, byte for byte.

@@ -32,9 +32,9 @@ module _ (c : tie.After-struct-known) where
   abbrev r : Natural
   r = c .before .digits .result
 
-  read : natural here ≡ found (r .value) (drop (r .next) text)
+  read : natural 6 here ≡ found (r .value) (drop (r .next) text)
   read =
-      natural-found here (r .value) (drop (r .next) text)
+      natural-found 6 here (r .value) (drop (r .next) text)
       (rw (← test .before .before .byte-at .ensures, ← test .before .is-digit .ensures) (test .if1 .taken))
       (c .before .digits .ensures .0)
 
@@ -74,7 +74,7 @@ returns-2 c = (simp (read (c .before), plain (c .before), c .if2 .left), c .befo
 returns-3 : tie.Need-returns-3
 returns-3 c =
     let a = c .before .before .before .before .args in (
-      rw (natural-missing (drop (a .at) (a .text .now))
+      rw (natural-missing 6 (drop (a .at) (a .text .now))
           (rw (← c .before .before .byte-at .ensures, ← c .before .is-digit .ensures) (c .if1 .left))),
       tt,
     )
