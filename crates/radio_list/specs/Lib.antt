@@ -1,0 +1,3 @@
+pub mod RadioList
+pub mod Private
+pub mod RadioListLaws

@@ -1,0 +1,2 @@
+-- Laws of the list.
+use Prim.Native.Nat.{ℕ}
