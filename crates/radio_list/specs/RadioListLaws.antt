@@ -1,2 +1,209 @@
--- Laws of the list.
-use Prim.Native.Nat.{ℕ}
+-- Laws of the list: what a line that passes has, how the lines go on, and what every tally of an accepted list has.
+use Prim.Native.Nat.{ℕ, zero, suc, _+_, _-_, _<_, _≤_}
+use mathlib.Core.Path.{_≡_, refl, sym, ap, _∙_}
+use mathlib.Core.Bool.{Bool, true, false, cond}
+use mathlib.Core.List.{List, [], _∷_}
+use native.Mathlib.Numerals.{add-one}
+use native.Mathlib.Omega.{arith}
+use borrow.Author.Tests.{ltb-true, leb-true}
+use lib.Dec.{ltb, leb}
+use lib.ListN.{length, getD, drop, set, replicate, length-set, length-drop, drop-of-length-le}
+use Rattle.calls.specs.NumberLaws.{check-passed, first-refusal-passed}
+use Rattle.tally.specs.declared.Tally.{Tally}
+use Rattle.tally.specs.Tally.{mostBlocks, consistent}
+use Rattle.tally.specs.Runs.{none}
+use Rattle.tally.specs.TallyLaws.{Consistent, consistent-facts}
+use Rattle.radios.specs.Radios.{radioCount, radioNumber}
+use Rattle.radios.specs.Runs.{noBlocks}
+use Rattle.scan.specs.Reading.{Reading, found, malformed, ifFound}
+use Rattle.scan.specs.Lines.{literal}
+use Rattle.radio_list.specs.RadioList.{
+  longestList,
+  listNames,
+  Entry,
+  radioLine,
+  listedNumber,
+  entryNumber,
+  Checked,
+  passed,
+  failed,
+  checkedBy,
+  checkedLine,
+  Listed,
+  refused,
+  listed,
+  atEnd,
+  goOn,
+  readLines,
+  linesFrom,
+  meaning,
+}
+
+-- ---- a line that passes
+
+-- what 15 asks of a tally in a list
+pub record Listable (t : Tally) : Type 0 where
+  pub blocks-le : t .blocks ≤ mostBlocks
+  pub fits : Consistent t
+
+-- what a line that passes has, where no radio below `least` may come any more
+pub record Passes (least : ℕ) (e : Entry) : Type 0 where
+  pub least-le : least ≤ e .radio
+  pub radio-lt : e .radio < radioCount
+  pub listable : Listable (e .tally)
+
+entry-passes : (least : ℕ) (e : Entry) → entryNumber least e ≡ 0 → Passes least e
+entry-passes least e h =
+    let all = first-refusal-passed (radioNumber (e .radio)) _ h in
+    let rising = check-passed (leb least (e .radio)) 13 _ (all .1) in
+    let blocks = check-passed (leb (e .tally .blocks) mostBlocks) 14 _ (rising .1) in
+    record {
+      least-le = leb-true least (e .radio) (rising .0);
+      radio-lt = ltb-true (e .radio) radioCount (check-passed (ltb (e .radio) radioCount) 15 0 (all .0) .0);
+      listable =
+        record {
+          blocks-le = leb-true (e .tally .blocks) mostBlocks (blocks .0);
+          fits = consistent-facts (e .tally) (check-passed (consistent (e .tally)) 14 0 (blocks .1) .0);
+        };
+    }
+
+pub line-passes : (least : ℕ) (s : List ℕ) (e : Entry) (u : List ℕ) → checkedLine least s ≡ passed e u → Passes least e
+unfolding checkedLine
+line-passes least s e u h = split (radioLine s) h
+  where
+    by-number : (number : ℕ) (d : Entry) (v : List ℕ) → entryNumber least d ≡ number
+        → checkedBy number d v ≡ passed e u
+        → Passes least e
+    by-number zero d v g h = let same : d ≡ e = cc in rw same at (entry-passes least d g)
+    by-number (suc number) d v g h = let h : _≡_ {A = ℕ} 0 1 = cc in absurd (omega arith)
+
+    split : (r : Reading Entry)
+        → ifFound r (failed 14) (λ e s. checkedBy (entryNumber least e) e s) ≡ passed e u
+        → Passes least e
+    split (found d v) h = by-number (entryNumber least d) d v refl h
+    split malformed h = let h : _≡_ {A = ℕ} 0 1 = cc in absurd (omega arith)
+
+-- ---- the lines go on
+
+-- how many lines are allowed does not matter, where they are enough for the radios from `least` on
+lines-enough : (n k least : ℕ) (tallies : List Tally) (s : List ℕ) → least ≤ radioCount → radioCount < n + least
+    → radioCount < k + least
+    → readLines n least tallies s ≡ readLines k least tallies s
+unfolding readLines
+lines-enough zero k least tallies s low n-enough k-enough = absurd (omega arith)
+lines-enough (suc n) zero least tallies s low n-enough k-enough = absurd (omega arith)
+lines-enough (suc n) (suc k) least tallies s low n-enough k-enough =
+    ap (atEnd s (listed tallies))
+    (split (checkedLine least s) refl (λ next ts u. lines-enough n k next ts u))
+  where
+    split : (r : Checked) → checkedLine least s ≡ r
+        → ((next : ℕ) (ts : List Tally) (u : List ℕ) → next ≤ radioCount → radioCount < n + next
+        → radioCount < k + next → readLines n next ts u ≡ readLines k next ts u)
+        → goOn r (λ e u. readLines n (suc (e .radio)) (set tallies (e .radio) (e .tally)) u)
+        ≡ goOn r (λ e u. readLines k (suc (e .radio)) (set tallies (e .radio) (e .tally)) u)
+    split (passed e u) g later =
+        let p = line-passes least s e u g in
+        later (suc (e .radio)) (set tallies (e .radio) (e .tally)) u (omega arith) (omega arith) (omega arith)
+    split (failed number) g later = refl
+
+at-end-more : (s : List ℕ) (end more : Listed) → 0 < length s → atEnd s end more ≡ more
+at-end-more [] end more h = absurd (omega arith)
+at-end-more (b ∷ s) end more h = refl
+
+module _ (least : ℕ) (tallies : List Tally) (t : List ℕ) (p : ℕ) (low : least ≤ radioCount) where
+  lines-step : linesFrom least tallies (drop p t)
+      ≡ atEnd (drop p t) (listed tallies)
+      (goOn (checkedLine least (drop p t))
+      (λ e u. readLines (radioCount - least) (suc (e .radio)) (set tallies (e .radio) (e .tally)) u))
+  unfolding readLines
+  lines-step = let e : suc radioCount - least ≡ suc (radioCount - least) = omega arith in rw e
+
+  pub lines-end : length t ≤ p → linesFrom least tallies (drop p t) ≡ listed tallies
+  lines-end h = lines-step ∙ rw (drop-of-length-le t h)
+
+  module _ (inside : p < length t) where
+    lines-more : linesFrom least tallies (drop p t)
+        ≡ goOn (checkedLine least (drop p t))
+        (λ e u. readLines (radioCount - least) (suc (e .radio)) (set tallies (e .radio) (e .tally)) u)
+    lines-more = lines-step ∙ at-end-more (drop p t) (listed tallies) _ (rw length-drop (omega arith))
+
+    pub lines-failed : (number : ℕ) → checkedLine least (drop p t) ≡ failed number
+        → linesFrom least tallies (drop p t) ≡ refused number
+    lines-failed number h = lines-more ∙ rw h
+
+    pub lines-next : (e : Entry) (u : List ℕ) → checkedLine least (drop p t) ≡ passed e u
+        → linesFrom least tallies (drop p t) ≡ linesFrom (e .radio + 1) (set tallies (e .radio) (e .tally)) u
+    lines-next e u h =
+        let f = line-passes least (drop p t) e u h in
+        lines-more
+        ∙ rw (h, add-one (e .radio))
+        (lines-enough (radioCount - least) (suc radioCount - suc (e .radio)) (suc (e .radio))
+        (set tallies (e .radio) (e .tally)) u (omega arith) (omega arith) (omega arith))
+
+-- ---- an accepted list
+
+pub record AllListable (tallies : List Tally) : Type 0 where
+  pub count : length tallies ≡ radioCount
+  pub each : (i : ℕ) → Listable (getD tallies i none)
+
+none-listable : Listable none
+none-listable =
+    record {
+      blocks-le = omega arith;
+      fits = record { blocks-sum = refl; iterations-low = omega arith; iterations-high = omega arith };
+    }
+
+no-blocks-listable : AllListable noBlocks
+no-blocks-listable = record { count = refl; each = λ i. rw (none-at radioCount i) none-listable }
+  where
+    none-at : (n i : ℕ) → getD (replicate n none) i none ≡ none
+    none-at zero i = refl
+    none-at (suc n) zero = refl
+    none-at (suc n) (suc i) = none-at n i
+
+set-listable : (tallies : List Tally) (radio : ℕ) (t : Tally) → AllListable tallies → Listable t
+    → AllListable (set tallies radio t)
+set-listable tallies radio t all new =
+    record {
+      count = length-set tallies radio t ∙ all .count;
+      each = λ i. at tallies radio i (all .each i);
+    }
+  where
+    at : (ts : List Tally) (r i : ℕ) → Listable (getD ts i none) → Listable (getD (set ts r t) i none)
+    at [] r i old = old
+    at (u ∷ ts) zero zero old = new
+    at (u ∷ ts) zero (suc i) old = old
+    at (u ∷ ts) (suc r) zero old = old
+    at (u ∷ ts) (suc r) (suc i) old = at ts r i old
+
+lines-listable : (n least : ℕ) (tallies : List Tally) (s : List ℕ) (end : List Tally) → AllListable tallies
+    → readLines n least tallies s ≡ listed end
+    → AllListable end
+unfolding readLines
+lines-listable zero least tallies s end all h = let g : _≡_ {A = ℕ} 0 1 = cc in absurd (omega arith)
+lines-listable (suc n) least tallies s end all h =
+    ended s (checkedLine least s) refl h (λ next ts u. lines-listable n next ts u end)
+  where
+    ended : (u : List ℕ) (r : Checked) → checkedLine least s ≡ r
+        → atEnd u (listed tallies)
+        (goOn r (λ e u. readLines n (suc (e .radio)) (set tallies (e .radio) (e .tally)) u)) ≡ listed end
+        → ((next : ℕ) (ts : List Tally) (u : List ℕ) → AllListable ts → readLines n next ts u ≡ listed end
+        → AllListable end)
+        → AllListable end
+    ended [] r g h later = let same : tallies ≡ end = cc in rw same at all
+    ended (b ∷ u) (passed e v) g h later =
+        later (suc (e .radio)) (set tallies (e .radio) (e .tally)) v
+        (set-listable tallies (e .radio) (e .tally) all (line-passes least s e v g .listable)) h
+    ended (b ∷ u) (failed number) g h later = let g : _≡_ {A = ℕ} 0 1 = cc in absurd (omega arith)
+
+-- in an accepted list there is a tally for every radio, and each can be counts of at most 1,000,000 blocks
+pub list-listable : (t : List ℕ) (tallies : List Tally) → meaning t ≡ listed tallies → AllListable tallies
+unfolding meaning
+list-listable t tallies h = split (leb (length t) longestList) (literal listNames t) h
+  where
+    split : (short : Bool) (r : Reading Unit)
+        → cond short (ifFound r (refused 14) (λ _ s. linesFrom 0 noBlocks s)) (refused 14) ≡ listed tallies
+        → AllListable tallies
+    split true (found _ s) h = lines-listable (suc radioCount) 0 noBlocks s tallies no-blocks-listable h
+    split true malformed h = let g : _≡_ {A = ℕ} 0 1 = cc in absurd (omega arith)
+    split false r h = let g : _≡_ {A = ℕ} 0 1 = cc in absurd (omega arith)
