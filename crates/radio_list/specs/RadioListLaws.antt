@@ -5,7 +5,7 @@ use mathlib.Core.Bool.{Bool, true, false, cond}
 use mathlib.Core.List.{List, [], _∷_}
 use native.Mathlib.Numerals.{add-one}
 use native.Mathlib.Omega.{arith}
-use borrow.Author.Tests.{ltb-true, leb-true}
+use borrow.Author.Tests.{ltb-true, leb-true, le-leb, lt-leb}
 use lib.Dec.{ltb, leb}
 use lib.ListN.{length, getD, drop, set, replicate, length-set, length-drop, drop-of-length-le}
 use Rattle.calls.specs.NumberLaws.{check-passed, first-refusal-passed}
@@ -139,6 +139,22 @@ module _ (least : ℕ) (tallies : List Tally) (t : List ℕ) (p : ℕ) (low : le
         ∙ rw (h, add-one (e .radio))
         (lines-enough (radioCount - least) (suc radioCount - suc (e .radio)) (suc (e .radio))
         (set tallies (e .radio) (e .tally)) u (omega arith) (omega arith) (omega arith))
+
+-- ---- the whole text
+
+module _ (t : List ℕ) where
+  pub list-long : longestList < length t → meaning t ≡ refused 14
+  unfolding meaning
+  list-long h = rw (lt-leb (length t) longestList h)
+
+  module _ (short : length t ≤ longestList) where
+    pub list-unnamed : literal listNames t ≡ malformed → meaning t ≡ refused 14
+    unfolding meaning
+    list-unnamed e = rw (le-leb (length t) longestList short, e)
+
+    pub list-named : (s : List ℕ) → literal listNames t ≡ found tt s → meaning t ≡ linesFrom 0 noBlocks s
+    unfolding meaning
+    list-named s e = rw (le-leb (length t) longestList short, e)
 
 -- ---- an accepted list
 
