@@ -1,3 +1,4 @@
 pub mod RadioList
 pub mod Private
 pub mod RadioListLaws
+pub mod Cases

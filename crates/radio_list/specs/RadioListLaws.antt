@@ -61,10 +61,10 @@ entry-passes least e h =
       least-le = leb-true least (e .radio) (rising .0);
       radio-lt = ltb-true (e .radio) radioCount (check-passed (ltb (e .radio) radioCount) 15 0 (all .0) .0);
       listable =
-        record {
-          blocks-le = leb-true (e .tally .blocks) mostBlocks (blocks .0);
-          fits = consistent-facts (e .tally) (check-passed (consistent (e .tally)) 14 0 (blocks .1) .0);
-        };
+          record {
+            blocks-le = leb-true (e .tally .blocks) mostBlocks (blocks .0);
+            fits = consistent-facts (e .tally) (check-passed (consistent (e .tally)) 14 0 (blocks .1) .0);
+          };
     }
 
 pub line-passes : (least : ℕ) (s : List ℕ) (e : Entry) (u : List ℕ) → checkedLine least s ≡ passed e u → Passes least e

@@ -145,7 +145,11 @@ pub fn read(text: &[u8]) -> RadioList
     if LONGEST_LIST < text.len() {
         return refused(Refusal::MalformedText);
     }
-    let names = scan::literal(text, 0, b"radio blocks criterion limit refusals iterations\n");
+    let names = scan::literal(
+        text,
+        0,
+        b"radio blocks criterion limit refusals iterations\n",
+    );
     let Next::At(first) = names else {
         return refused(Refusal::MalformedText);
     };

@@ -1,5 +1,5 @@
--- `read_lines` meets its contract. The lines that are left, after the tallies stored so far, mean what all lines mean; and
--- each line that passes leaves fewer radios that may come.
+-- `read_lines` meets its contract. The lines that are left, behind the tallies stored so far, mean what all lines mean;
+-- and each line that passes leaves fewer radios that may come.
 use Prim.Native.Nat.{ℕ, _-_, _≤_}
 use mathlib.Core.Path.{_≡_, refl, ap, _∙_}
 use mathlib.Core.List.{List}
@@ -102,7 +102,8 @@ loop-again c =
 returns-2 : tie.Need-returns-2 Inv-loop μ-loop
 returns-2 c =
     let l = c .before .loop in
-    rw (l .inv .0 ∙ lines-end (l .least) (l .radios .tallies) (text (c .before)) (l .p) (l .inv .1) (c .loop-test .left))
+    rw (l .inv .0
+    ∙ lines-end (l .least) (l .radios .tallies) (text (c .before)) (l .p) (l .inv .1) (c .loop-test .left))
     (record { answer = refl; tallies-are = refl })
 
 pub read-lines-spec : {M : Type 1} → statement M

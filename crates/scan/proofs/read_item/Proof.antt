@@ -53,8 +53,9 @@ enum-told c = search needs
 returns : tie.Need-returns
 returns c =
     let k = c .before .before .before in
-    let e = c .before .next .given .1 in (
-      item-found _ (here k) (r k .value) (drop (r k .next) (text k)) (read k) (drop (c .before .next .given .0 .0) (text k))
+    let e = c .before .next .given .1 in
+    let behind = drop (c .before .next .given .0 .0) (text k) in (
+      item-found _ (here k) (r k .value) (drop (r k .next) (text k)) (read k) behind
           (k .separator .ensures .0 ∙ ap (readTo (text k) tt) e),
       rw e at (k .separator .ensures .1),
     )
