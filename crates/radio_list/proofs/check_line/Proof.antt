@@ -3,6 +3,7 @@ use Prim.Native.Nat.{ℕ}
 use mathlib.Core.Path.{_≡_, sym, ap, _∙_}
 use mathlib.Core.Bool.{true}
 use mathlib.Core.List.{List}
+use native.Mathlib.Omega.{arith}
 use borrow.Author.Needs.{needs}
 use borrow.Author.Tests.{not-true, not-false, le-leb, lt-leb}
 use lib.Dec.{ltb, leb}
@@ -46,7 +47,7 @@ rising c =
     let k = c .before .before .before in le-leb (start k .args .least) (radio k) (c .if2 .left)
 
 few : (c : tie.Else3) → leb (counts (c .before .before .before .before .before) .blocks) mostBlocks ≡ true
-few c = le-leb (counts (c .before .before .before .before .before) .blocks) mostBlocks (c .if3 .left)
+few c = le-leb (counts (c .before .before .before .before .before) .blocks) mostBlocks (omega arith)
 
 read-line-requires : tie.Need-read-line-requires
 read-line-requires c κs = search needs

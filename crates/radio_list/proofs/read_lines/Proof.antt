@@ -80,7 +80,7 @@ mul-tally : tie.Need-mul-tally Inv-loop μ-loop
 mul-tally c = search needs
 
 element-set-from-tally : tie.Need-element-set-from-tally Inv-loop μ-loop
-element-set-from-tally c = passes c .radio-lt
+element-set-from-tally c = omega (arith, passes c .least-le, passes c .radio-lt)
 
 add-least : tie.Need-add-least Inv-loop μ-loop
 add-least c = omega (arith, passes c .radio-lt)
