@@ -1,6 +1,6 @@
 -- Laws of the list: what a line that passes has, how the lines go on, and what every tally of an accepted list has.
 use Prim.Native.Nat.{ℕ, zero, suc, _+_, _-_, _<_, _≤_}
-use mathlib.Core.Path.{_≡_, refl, sym, ap, _∙_}
+use mathlib.Core.Path.{_≡_, refl, ap, _∙_}
 use mathlib.Core.Bool.{Bool, true, false, cond}
 use mathlib.Core.List.{List, [], _∷_}
 use native.Mathlib.Numerals.{add-one}
@@ -22,7 +22,6 @@ use Rattle.radio_list.specs.RadioList.{
   listNames,
   Entry,
   radioLine,
-  listedNumber,
   entryNumber,
   Checked,
   passed,
@@ -105,6 +104,10 @@ lines-enough (suc n) (suc k) least tallies s low n-enough k-enough =
         let p = line-passes least s e u g in
         later (suc (e .radio)) (set tallies (e .radio) (e .tally)) u (omega arith) (omega arith) (omega arith)
     split (failed number) g later = refl
+
+-- so the number of lines allowed is no rule of its own: with any larger one the text means the same
+pub bound-free : (n : ℕ) (s : List ℕ) → radioCount < n → readLines n 0 noBlocks s ≡ linesFrom 0 noBlocks s
+bound-free n s h = lines-enough n (suc radioCount) 0 noBlocks s (omega arith) (omega arith) (omega arith)
 
 at-end-more : (s : List ℕ) (end more : Listed) → 0 < length s → atEnd s end more ≡ more
 at-end-more [] end more h = absurd (omega arith)
