@@ -5,7 +5,7 @@ use mathlib.Core.Path.{_≡_, refl}
 use mathlib.Core.List.{[], _∷_, _++_, map}
 use lib.ListN.{set}
 use Rattle.calls.specs.Texts.{bytes}
-use Rattle.tally.specs.declared.Tally.{Tally}
+use Rattle.tally.specs.Cases.{tally}
 use Rattle.radios.specs.Runs.{noBlocks}
 use Rattle.scan.specs.Numbers.{digits, natural}
 use Rattle.scan.specs.Lines.{spaces, separator, item, literal}
@@ -14,22 +14,11 @@ use Rattle.radio_list.specs.RadioList.{
   radioLine,
   checkedLine,
   Listed,
+  refused,
   listed,
   readLines,
   meaning,
-  numberIn,
 }
-
--- blocks, endings by reason 1 and by reason 2, refusals, iterations
-abbrev tally : ℕ → ℕ → ℕ → ℕ → ℕ → Tally
-tally blocks by-criterion by-limit refusals iterations =
-    record {
-      blocks = blocks;
-      «by_criterion» = by-criterion;
-      «by_limit» = by-limit;
-      refusals = refusals;
-      iterations = iterations;
-    }
 
 -- the lines behind the first
 abbrev lines : String → Listed
@@ -58,6 +47,10 @@ unfolding meaning readLines checkedLine radioLine item natural digits separator 
 block-1000000 = refl
 
 -- ---- lists that are not
+
+abbrev numberIn : Listed → ℕ
+numberIn (refused number) = number
+numberIn (listed tallies) = 0
 
 abbrev number : String → ℕ
 number s = numberIn (lines s)

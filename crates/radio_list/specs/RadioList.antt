@@ -5,7 +5,9 @@ use mathlib.Core.Bool.{cond}
 use mathlib.Core.List.{List, [], _∷_}
 use lib.Dec.{leb}
 use lib.ListN.{length, set}
-use Rattle.calls.specs.Numbers.{check, firstRefusal, numberOf}
+use Rattle.calls.specs.declared.Answer.{Answer}
+use Rattle.calls.specs.declared.Answer.the-variants.{Done, Refused}
+use Rattle.calls.specs.Numbers.{refusalNumber, check, firstRefusal}
 use Rattle.calls.specs.Texts.{bytes}
 use Rattle.tally.specs.declared.Tally.{Tally}
 use Rattle.tally.specs.Tally.{mostBlocks, consistent}
@@ -104,15 +106,16 @@ meaning t =
 
 -- ---- the promise of `read`: its answer and all tallies, by the meaning of the text
 
-abbrev pub numberIn : Listed → ℕ
-numberIn (refused number) = number
-numberIn (listed tallies) = 0
+abbrev pub talliesListed : Listed → List Tally
+talliesListed (refused number) = noBlocks
+talliesListed (listed tallies) = tallies
 
--- after a refusal five zeros for each radio
-abbrev pub talliesIn : Listed → List Tally
-talliesIn (refused number) = noBlocks
-talliesIn (listed tallies) = tallies
+-- what an answer says of a text, with the tallies beside it
+abbrev pub meant : Answer → List Tally → Listed
+meant Done tallies = listed tallies
+meant (Refused refusal) tallies = refused (refusalNumber refusal)
 
+-- after a refusal the tallies are five zeros for each radio
 pub record ListRead (means : Listed) (r : RadioList) : Type 0 where
-  pub answer : numberOf (r .answer) ≡ numberIn means
-  pub tallies-are : r .radios .tallies ≡ talliesIn means
+  pub answer : meant (r .answer) (r .radios .tallies) ≡ means
+  pub tallies-are : r .radios .tallies ≡ talliesListed means

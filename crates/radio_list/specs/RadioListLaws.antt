@@ -12,8 +12,9 @@ use Rattle.calls.specs.NumberLaws.{check-passed, first-refusal-passed}
 use Rattle.tally.specs.declared.Tally.{Tally}
 use Rattle.tally.specs.Tally.{mostBlocks, consistent}
 use Rattle.tally.specs.Runs.{none}
-use Rattle.tally.specs.TallyLaws.{Consistent, consistent-facts}
+use Rattle.tally.specs.TallyLaws.{Countable, consistent-facts, none-consistent}
 use Rattle.radios.specs.Radios.{radioCount, radioNumber}
+use Rattle.radios.specs.RadioLaws.{EveryTally, zeros-every, set-every}
 use Rattle.radios.specs.Runs.{noBlocks}
 use Rattle.scan.specs.Reading.{Reading, found, malformed, ifFound}
 use Rattle.scan.specs.Lines.{literal}
@@ -40,16 +41,11 @@ use Rattle.radio_list.specs.RadioList.{
 
 -- ---- a line that passes
 
--- what 15 asks of a tally in a list
-pub record Listable (t : Tally) : Type 0 where
-  pub blocks-le : t .blocks ≤ mostBlocks
-  pub fits : Consistent t
-
 -- what a line that passes has, where no radio below `least` may come any more
 pub record Passes (least : ℕ) (e : Entry) : Type 0 where
   pub least-le : least ≤ e .radio
   pub radio-lt : e .radio < radioCount
-  pub listable : Listable (e .tally)
+  pub countable : Countable (e .tally)
 
 entry-passes : (least : ℕ) (e : Entry) → entryNumber least e ≡ 0 → Passes least e
 entry-passes least e h =
@@ -59,7 +55,7 @@ entry-passes least e h =
     record {
       least-le = leb-true least (e .radio) (rising .0);
       radio-lt = ltb-true (e .radio) radioCount (check-passed (ltb (e .radio) radioCount) 15 0 (all .0) .0);
-      listable =
+      countable =
           record {
             blocks-le = leb-true (e .tally .blocks) mostBlocks (blocks .0);
             fits = consistent-facts (e .tally) (check-passed (consistent (e .tally)) 14 0 (blocks .1) .0);
@@ -161,68 +157,37 @@ module _ (t : List ℕ) where
 
 -- ---- an accepted list
 
-pub record AllListable (tallies : List Tally) : Type 0 where
-  pub count : length tallies ≡ radioCount
-  pub each : (i : ℕ) → Listable (getD tallies i none)
+none-countable : Countable none
+none-countable = record { blocks-le = omega arith; fits = none-consistent }
 
-none-listable : Listable none
-none-listable =
-    record {
-      blocks-le = omega arith;
-      fits = record { blocks-sum = refl; iterations-low = omega arith; iterations-high = omega arith };
-    }
-
-no-blocks-listable : AllListable noBlocks
-no-blocks-listable = record { count = refl; each = λ i. rw (none-at radioCount i) none-listable }
-  where
-    none-at : (n i : ℕ) → getD (replicate n none) i none ≡ none
-    none-at zero i = refl
-    none-at (suc n) zero = refl
-    none-at (suc n) (suc i) = none-at n i
-
-set-listable : (tallies : List Tally) (radio : ℕ) (t : Tally) → AllListable tallies → Listable t
-    → AllListable (set tallies radio t)
-set-listable tallies radio t all new =
-    record {
-      count = length-set tallies radio t ∙ all .count;
-      each = λ i. at tallies radio i (all .each i);
-    }
-  where
-    at : (ts : List Tally) (r i : ℕ) → Listable (getD ts i none) → Listable (getD (set ts r t) i none)
-    at [] r i old = old
-    at (u ∷ ts) zero zero old = new
-    at (u ∷ ts) zero (suc i) old = old
-    at (u ∷ ts) (suc r) zero old = old
-    at (u ∷ ts) (suc r) (suc i) old = at ts r i old
-
-lines-listable : (n least : ℕ) (tallies : List Tally) (s : List ℕ) (end : List Tally) → AllListable tallies
+lines-countable : (n least : ℕ) (tallies : List Tally) (s : List ℕ) (end : List Tally) → EveryTally Countable tallies
     → readLines n least tallies s ≡ listed end
-    → AllListable end
+    → EveryTally Countable end
 unfolding readLines
-lines-listable zero least tallies s end all h = let g : _≡_ {A = ℕ} 0 1 = cc in absurd (omega arith)
-lines-listable (suc n) least tallies s end all h =
-    ended s (checkedLine least s) refl h (λ next ts u. lines-listable n next ts u end)
+lines-countable zero least tallies s end all h = let g : _≡_ {A = ℕ} 0 1 = cc in absurd (omega arith)
+lines-countable (suc n) least tallies s end all h =
+    ended s (checkedLine least s) refl h (λ next ts u. lines-countable n next ts u end)
   where
     ended : (u : List ℕ) (r : Checked) → checkedLine least s ≡ r
         → atEnd u (listed tallies)
         (goOn r (λ e u. readLines n (suc (e .radio)) (set tallies (e .radio) (e .tally)) u)) ≡ listed end
-        → ((next : ℕ) (ts : List Tally) (u : List ℕ) → AllListable ts → readLines n next ts u ≡ listed end
-        → AllListable end)
-        → AllListable end
+        → ((next : ℕ) (ts : List Tally) (u : List ℕ) → EveryTally Countable ts → readLines n next ts u ≡ listed end
+        → EveryTally Countable end)
+        → EveryTally Countable end
     ended [] r g h later = let same : tallies ≡ end = cc in rw same at all
     ended (b ∷ u) (passed e v) g h later =
         later (suc (e .radio)) (set tallies (e .radio) (e .tally)) v
-        (set-listable tallies (e .radio) (e .tally) all (line-passes least s e v g .listable)) h
+        (set-every Countable tallies (e .radio) (e .tally) all (line-passes least s e v g .countable)) h
     ended (b ∷ u) (failed number) g h later = let g : _≡_ {A = ℕ} 0 1 = cc in absurd (omega arith)
 
--- in an accepted list there is a tally for every radio, and each can be counts of at most 1,000,000 blocks
-pub list-listable : (t : List ℕ) (tallies : List Tally) → meaning t ≡ listed tallies → AllListable tallies
+-- in an accepted list the tally of every radio can be counts of at most 1,000,000 blocks
+pub list-countable : (t : List ℕ) (tallies : List Tally) → meaning t ≡ listed tallies → EveryTally Countable tallies
 unfolding meaning
-list-listable t tallies h = split (leb (length t) longestList) (literal listNames t) h
+list-countable t tallies h = split (leb (length t) longestList) (literal listNames t) h
   where
     split : (short : Bool) (r : Reading Unit)
         → cond short (ifFound r (refused 14) (λ _ s. linesFrom 0 noBlocks s)) (refused 14) ≡ listed tallies
-        → AllListable tallies
-    split true (found _ s) h = lines-listable (suc radioCount) 0 noBlocks s tallies no-blocks-listable h
+        → EveryTally Countable tallies
+    split true (found _ s) h = lines-countable (suc radioCount) 0 noBlocks s tallies (zeros-every Countable none-countable radioCount) h
     split true malformed h = let g : _≡_ {A = ℕ} 0 1 = cc in absurd (omega arith)
     split false r h = let g : _≡_ {A = ℕ} 0 1 = cc in absurd (omega arith)

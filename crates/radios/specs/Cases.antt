@@ -5,20 +5,10 @@ use mathlib.Core.List.{List, [], _∷_, map}
 use lib.ListN.{set}
 use Rattle.decoder.specs.Decoder.{Result, refused, ended}
 use Rattle.tally.specs.declared.Tally.{Tally}
+use Rattle.tally.specs.Cases.{tally}
 use Rattle.tally.specs.Runs.{none}
 use Rattle.radios.specs.Radios.{radioNumber, tallyOf, radioCallNumber, talliesOf}
 use Rattle.radios.specs.Runs.{noBlocks, sumOver}
-
--- blocks, endings by reason 1 and by reason 2, refusals, iterations
-abbrev tally : ℕ → ℕ → ℕ → ℕ → ℕ → Tally
-tally blocks by-criterion by-limit refusals iterations =
-    record {
-      blocks = blocks;
-      «by_criterion» = by-criterion;
-      «by_limit» = by-limit;
-      refusals = refusals;
-      iterations = iterations;
-    }
 
 -- the largest number of 32 bits last
 pub numbers : map radioNumber (0 ∷ 1 ∷ 63 ∷ 64 ∷ 4294967295 ∷ []) ≡ 0 ∷ 0 ∷ 0 ∷ 16 ∷ 16 ∷ []

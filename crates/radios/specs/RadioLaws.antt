@@ -31,6 +31,26 @@ use Rattle.radios.specs.Runs.{
   answersTo,
 }
 
+-- ---- what holds of the tally of every radio
+
+abbrev pub EveryTally : (Tally → Type 0) → List Tally → Type 0
+EveryTally P tallies = (radio : ℕ) → P (tallyOf radio tallies)
+
+module _ (P : Tally → Type 0) where
+  pub zeros-every : P none → (n : ℕ) → EveryTally P (replicate n none)
+  zeros-every holds zero radio = holds
+  zeros-every holds (suc n) zero = holds
+  zeros-every holds (suc n) (suc radio) = zeros-every holds n radio
+
+  pub set-every : (tallies : List Tally) (at : ℕ) (t : Tally) → EveryTally P tallies → P t
+      → EveryTally P (set tallies at t)
+  set-every [] at t each new radio = each radio
+  set-every (u ∷ tallies) zero t each new zero = new
+  set-every (u ∷ tallies) zero t each new (suc radio) = each (suc radio)
+  set-every (u ∷ tallies) (suc at) t each new zero = each zero
+  set-every (u ∷ tallies) (suc at) t each new (suc radio) =
+      set-every tallies at t (λ radio. each (suc radio)) new radio
+
 -- ---- one call
 
 -- the tally that a call of one tally leaves, stored in its place, leaves what a call for the radio does

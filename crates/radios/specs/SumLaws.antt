@@ -21,6 +21,7 @@ use Rattle.tally.specs.TallyLaws.{
   usable-number,
   refused-15,
   same-tally,
+  none-consistent,
   single-consistent,
   plus-consistent,
   counted-plus,
@@ -28,7 +29,7 @@ use Rattle.tally.specs.TallyLaws.{
   blocks-counted,
 }
 use Rattle.radios.specs.Radios.{radioCount, radioNumber, tallyOf, radioCallNumber, talliesOf}
-use Rattle.radios.specs.RadioLaws.{others-kept, tallies-length, own-number, own-counted}
+use Rattle.radios.specs.RadioLaws.{EveryTally, zeros-every, set-every, tallies-length}
 use Rattle.radios.specs.Runs.{
   CallFor,
   noBlocks,
@@ -60,33 +61,19 @@ sum-plus (t ∷ tallies) (suc radio) u h =
 
 -- every tally could be counts
 abbrev AllConsistent : List Tally → Type 0
-AllConsistent tallies = (radio : ℕ) → Consistent (tallyOf radio tallies)
+AllConsistent = EveryTally Consistent
 
 -- then so could the sum
 sum-consistent : (tallies : List Tally) → AllConsistent tallies → Consistent (sumOver tallies)
 sum-consistent [] each = each 0
 sum-consistent (t ∷ tallies) each = plus-consistent (each 0) (sum-consistent tallies (λ radio. each (suc radio)))
 
-none-consistent : Consistent none
-none-consistent = record { blocks-sum = refl; iterations-low = omega arith; iterations-high = omega arith }
-
-zeros-consistent : (n : ℕ) → AllConsistent (replicate n none)
-zeros-consistent zero radio = none-consistent
-zeros-consistent (suc n) zero = none-consistent
-zeros-consistent (suc n) (suc radio) = zeros-consistent n radio
+zeros-consistent : AllConsistent noBlocks
+zeros-consistent = zeros-every Consistent none-consistent radioCount
 
 zeros-sum : (n : ℕ) → sumOver (replicate n none) ≡ none
 zeros-sum zero = refl
 zeros-sum (suc n) = ap (plus none) (zeros-sum n)
-
-set-consistent : (tallies : List Tally) (at : ℕ) {t : Tally} → AllConsistent tallies → Consistent t
-    → AllConsistent (set tallies at t)
-set-consistent [] at each fits radio = each radio
-set-consistent (u ∷ tallies) zero each fits zero = fits
-set-consistent (u ∷ tallies) zero each fits (suc radio) = each (suc radio)
-set-consistent (u ∷ tallies) (suc at) each fits zero = each zero
-set-consistent (u ∷ tallies) (suc at) each fits (suc radio) =
-    set-consistent tallies at (λ radio. each (suc radio)) fits radio
 
 -- such a tally is refused only where it is full
 full : (t : Tally) → Consistent t → {number : ℕ} → tallyNumber t ≡ suc number → mostBlocks ≤ t .blocks
@@ -140,7 +127,7 @@ module _ (tallies : List Tally) (c : CallFor) where
       let fits : Consistent (counted own answer) =
       rw (counted-plus own answer d) (plus-consistent (each (c .radio)) (single-consistent answer d)) in
       by-call (λ h e. rw e each) (λ number h g e. rw e each)
-      (λ h g e. rw e (set-consistent tallies (c .radio) each fits))
+      (λ h g e. rw e (set-every Consistent tallies (c .radio) (counted own answer) each fits))
 
   next-length : length tallies ≡ radioCount → length (talliesBy tallies c) ≡ radioCount
   next-length all = tallies-length (c .radio) tallies answer ∙ all
@@ -233,7 +220,7 @@ sum-from (c ∷ calls) tallies all each few =
 pub radios-sum : (calls : List CallFor) → sumOver (talliesAfter noBlocks calls) .blocks ≤ mostBlocks
     → sumOver (talliesAfter noBlocks calls) ≡ tallyAfter none (served calls)
 radios-sum calls few =
-    sum-from calls noBlocks refl (zeros-consistent radioCount) few
+    sum-from calls noBlocks refl zeros-consistent few
     ∙ ap (λ (t : Tally). tallyAfter t (served calls)) (zeros-sum radioCount)
 
 -- so it is after up to 1,000,000 calls that 16 doesn't refuse
@@ -267,5 +254,5 @@ answered-from (c ∷ calls) tallies all each few =
 pub radios-answered : (calls : List CallFor) → length (served calls) ≤ mostBlocks
     → radioAnswers noBlocks calls ≡ map answerUntallied calls
 radios-answered calls few =
-    answered-from calls noBlocks refl (zeros-consistent radioCount)
+    answered-from calls noBlocks refl zeros-consistent
     (omega (arith, ap (λ (t : Tally). t .blocks) (zeros-sum radioCount)))

@@ -8,7 +8,7 @@ use Rattle.tally.specs.Tally.{tallyNumber, counted}
 use Rattle.tally.specs.Runs.{none, others, countsOver}
 
 -- blocks, endings by reason 1 and by reason 2, refusals, iterations
-abbrev tally : ℕ → ℕ → ℕ → ℕ → ℕ → Tally
+abbrev pub tally : ℕ → ℕ → ℕ → ℕ → ℕ → Tally
 tally blocks by-criterion by-limit refusals iterations =
     record {
       blocks = blocks;

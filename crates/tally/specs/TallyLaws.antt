@@ -38,6 +38,11 @@ pub record Usable (t : Tally) : Type 0 where
   pub blocks-lt : t .blocks < mostBlocks
   pub fits : Consistent t
 
+-- what holds of every tally that calls from five zeros leave: it is usable, or full
+pub record Countable (t : Tally) : Type 0 where
+  pub blocks-le : t .blocks ≤ mostBlocks
+  pub fits : Consistent t
+
 pub consistent-facts : (t : Tally) → consistent t ≡ true → Consistent t
 consistent-facts t h =
     let both = and-passed (eqb (t .blocks) (endings t + t .refusals)) _ h in
@@ -100,6 +105,9 @@ same-tally blocks criterion limit refusals iterations i =
       refusals = refusals i;
       iterations = iterations i;
     }
+
+pub none-consistent : Consistent none
+none-consistent = record { blocks-sum = refl; iterations-low = omega arith; iterations-high = omega arith }
 
 pub single-consistent : (r : Result) → DecoderAnswer r → Consistent (single r)
 single-consistent (refused number) d =
