@@ -150,7 +150,8 @@ uint32_t vedrogne_decode(
  *
  * tallies has 320 elements: 64 tallies of five numbers, radio r's in tallies[5 r .. 5 r + 4]: blocks, endings by reason
  * 1, endings by reason 2, refusals, iterations. It starts with zeros. Refusals 1 to 10 are counted, as a block with no
- * iterations. The five numbers of the radio are all that is read and written there.
+ * iterations. The five numbers of the radio are all that is read and written there; yet the whole list counts as
+ * memory that the function may write, and no other thread uses it meanwhile.
  *
  * Numbers: 7 for fewer than 320 elements of tallies, 7 for fewer than six of settings, 16, 15; none of these is
  * counted, and all tallies stay as they were. Then 1 to 10. What the other 63 tallies hold refuses nothing. From zeros

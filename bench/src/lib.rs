@@ -56,6 +56,29 @@ extern "C" {
         iterations: *mut u32,
         reason: *mut u32,
     ) -> u32;
+    fn vedrogne_decode_radio(
+        radio: u32,
+        tallies: *mut u32,
+        tallies_len: usize,
+        settings: *const u32,
+        settings_len: usize,
+        mask: *const u8,
+        mask_len: usize,
+        llr: *const i16,
+        llr_len: usize,
+        soft: *mut i16,
+        soft_len: usize,
+        mark: *mut u8,
+        mark_len: usize,
+        coded_soft: *mut i16,
+        coded_soft_len: usize,
+        coded_mark: *mut u8,
+        coded_mark_len: usize,
+        work: *mut i16,
+        work_len: usize,
+        iterations: *mut u32,
+        reason: *mut u32,
+    ) -> u32;
     fn baseline_decode(
         m: u32,
         top: i16,
@@ -83,20 +106,69 @@ pub fn lent(m: usize) -> Lent {
     }
 }
 
-/// The proved decoder, with a criterion and its operand; the iteration at which it ends.
-pub fn proved(block: &Block, criterion: (u32, u32), limit: u32, to: &mut Lent) -> u32 {
-    let settings = [
+/// The list of settings for a block, with a criterion and its operand.
+fn settings(block: &Block, criterion: (u32, u32), limit: u32) -> [u32; 6] {
+    [
         block.m as u32,
         block.ceiling as u32,
         block.scale as u32,
         limit,
         criterion.0,
         criterion.1,
-    ];
+    ]
+}
+
+/// The proved decoder, with a criterion and its operand; the iteration at which it ends.
+pub fn proved(block: &Block, criterion: (u32, u32), limit: u32, to: &mut Lent) -> u32 {
+    let settings = settings(block, criterion, limit);
     let (mut iterations, mut reason) = (0, 0);
     // SAFETY: every pointer comes with the length of its own vector
     let refused = unsafe {
         vedrogne_decode(
+            settings.as_ptr(),
+            settings.len(),
+            block.mask.as_ptr(),
+            block.mask.len(),
+            block.llr.as_ptr(),
+            block.llr.len(),
+            to.soft.as_mut_ptr(),
+            to.soft.len(),
+            to.mark.as_mut_ptr(),
+            to.mark.len(),
+            to.coded_soft.as_mut_ptr(),
+            to.coded_soft.len(),
+            to.coded_mark.as_mut_ptr(),
+            to.coded_mark.len(),
+            to.work.as_mut_ptr(),
+            to.work.len(),
+            &mut iterations,
+            &mut reason,
+        )
+    };
+    assert_eq!(
+        refused, 0,
+        "the proved decoder refuses a block of the benchmark"
+    );
+    iterations
+}
+
+/// The same for a radio, with the call counted in a list of tallies; the iteration at which it ends.
+pub fn proved_for_radio(
+    radio: u32,
+    tallies: &mut [u32; 320],
+    block: &Block,
+    criterion: (u32, u32),
+    limit: u32,
+    to: &mut Lent,
+) -> u32 {
+    let settings = settings(block, criterion, limit);
+    let (mut iterations, mut reason) = (0, 0);
+    // SAFETY: every pointer comes with the length of its own vector
+    let refused = unsafe {
+        vedrogne_decode_radio(
+            radio,
+            tallies.as_mut_ptr(),
+            tallies.len(),
             settings.as_ptr(),
             settings.len(),
             block.mask.as_ptr(),

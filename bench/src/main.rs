@@ -1,7 +1,7 @@
 //! The proved decoder against others, side by side in one run: each round runs every decoder once, and a figure is
 //! the best or the median of all rounds.
 use bench::noise::{self, Random};
-use bench::{baseline, blocks, lent, noisy, plain, proved, Block, Lent};
+use bench::{baseline, blocks, lent, noisy, plain, proved, proved_for_radio, Block, Lent};
 use std::time::Instant;
 
 const NAMES: [&str; 4] = [
@@ -181,10 +181,44 @@ fn criteria_table(random: &mut Random) {
     }
 }
 
+/// A call of one iteration without a tally and with one, where what counting costs shows most.
+fn radio_table(random: &mut Random) {
+    println!(
+        "\nCalls of one iteration, criterion 0 (ns a call, best of 400 rounds of 200 calls): \
+         vedrogne_decode, vedrogne_decode_radio, ratio"
+    );
+    for m in [3, 10] {
+        let block = noisy(m, 2.5, random);
+        let mut to = [lent(m), lent(m)];
+        let mut best = [f64::MAX; 2];
+        for _ in 0..400 {
+            let mut tallies = [0; 320];
+            let begin = Instant::now();
+            for _ in 0..200 {
+                proved(&block, (0, 0), 1, &mut to[0]);
+            }
+            let middle = Instant::now();
+            for call in 0..200 {
+                proved_for_radio(call % 64, &mut tallies, &block, (0, 0), 1, &mut to[1]);
+            }
+            best[0] = best[0].min((middle - begin).as_secs_f64());
+            best[1] = best[1].min(middle.elapsed().as_secs_f64());
+            let counted: u32 = tallies.iter().step_by(5).sum();
+            assert!(to[0] == to[1] && counted == 200, "the calls disagree");
+        }
+        let [plain, tallied] = best.map(|seconds| seconds * 1e9 / 200.0);
+        println!(
+            "m = {m:2} {plain:8.1} {tallied:8.1} {:6.3}",
+            tallied / plain
+        );
+    }
+}
+
 fn main() {
     let mut random = Random(2026);
     iteration_table(&mut random);
     growth_table(&mut random);
     block_table(&mut random);
     criteria_table(&mut random);
+    radio_table(&mut random);
 }

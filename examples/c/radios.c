@@ -72,7 +72,7 @@ int main(void)
         }
     }
 
-    /* An LLR above the ceiling is refused with 10 and counts for its radio; radio 64 is refused with 16, and doesn't. */
+    /* An LLR above the ceiling is refused with 10 and counts for its radio; radio 64 is refused with 16 and doesn't. */
     llr[0] = CEILING + 1;
     if (receive(12, tallies, llr) != 10 || receive(64, tallies, llr) != 16) {
         return 1;

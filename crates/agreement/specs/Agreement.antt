@@ -26,7 +26,7 @@ use Rattle.tally.specs.declared.Tallied.{Tallied}
 use Rattle.tally.specs.Tally.{tallyNumber, answerBy, tallyBy, TalliedDecode}
 use Rattle.radios.specs.declared.Radios.{Radios}
 use Rattle.radios.specs.declared.RadioTallied.{RadioTallied}
-use Rattle.radios.specs.Radios.{radioCallNumber, talliesOf, RadioDecode}
+use Rattle.radios.specs.Radios.{radioCallNumber, talliesCounted, RadioDecode}
 use Rattle.scan.specs.Reading.{Reading, found, malformed}
 use Rattle.report_input.specs.Input.{
   longestText,
@@ -106,12 +106,15 @@ module _ (s : Settings) (mask : List ℕ) (llr : List ℤ) (lent : Slices) where
 
   -- any two calls for the same radio that are handed the same tallies: all 64 come back the same
   pub radio-agrees : {radio : ℕ} {radios : Radios} {new new′ : Slices} {r r′ : RadioTallied}
-      → RadioDecode radios radio (under 4 s) mask llr lent new r → RadioDecode radios radio (under 2 s) mask llr lent new′ r′
+      → RadioDecode radios radio (under 4 s) mask llr lent new r
+      → RadioDecode radios radio (under 2 s) mask llr lent new′ r′
       → (resultOf (r .outcome) ≡ resultOf (r′ .outcome)) × (r .radios .tallies ≡ r′ .radios .tallies) × (new ≡ new′)
   radio-agrees {radio} {radios} four two =
       let first = radioCallNumber radio (radios .tallies) in (
         four .answer ∙ ap (answerBy first) (criteria-agree .answer) ∙ sym (two .answer),
-        four .tallies-are ∙ ap (talliesOf radio (radios .tallies)) (criteria-agree .answer) ∙ sym (two .tallies-are),
+        four .tallies-are
+            ∙ ap (talliesCounted radio (radios .tallies)) (criteria-agree .answer)
+            ∙ sym (two .tallies-are),
         four .slices
             ∙ ap (λ (slices : Slices). unlessRefused first slices lent) (criteria-agree .slices)
             ∙ sym (two .slices),
@@ -127,7 +130,8 @@ module _ (m ceiling scale limit : ℕ) (behind mask : List ℕ) (llr : List ℤ)
   same : SameDecoding (settingsIn (list 4)) (settingsIn (list 2)) mask llr (before .slices)
   same = criteria-agree (settingsIn (list 2)) mask llr (before .slices)
 
-  -- `first` is the number of what is tested before the decoder's own tests: the lengths of the lists, the radio, its tally
+  -- `first` is the number of what is tested before the decoder's own tests: the lengths of the lists, the radio, its
+  -- tally
   results : (first : ℕ) → callResult first (list 4) mask llr before ≡ callResult first (list 2) mask llr before
   results first = ap (answerBy first) (same .answer)
 

@@ -40,7 +40,7 @@ radio-0-and-63 : lines "0 1 1 0 0 1\n063 1 0 1 0 200\n"
 unfolding meaning readLines checkedLine radioLine item natural digits separator spaces literal
 radio-0-and-63 = refl
 
--- a tally that takes no block more
+-- a full tally
 block-1000000 : lines "0 1000000 1000000 0 0 200000000\n"
     ≡ listed (set noBlocks 0 (tally 1000000 1000000 0 0 200000000))
 unfolding meaning readLines checkedLine radioLine item natural digits separator spaces literal
@@ -93,7 +93,7 @@ separators : map number
 unfolding meaning readLines checkedLine radioLine item natural digits separator spaces literal
 separators = refl
 
--- 14 for the line before 16, 16 before 14 for the order, and that before 15
+-- 14 for the line before 16, 16 before 15, and 14 for the order before 15
 within-a-line : map number
     ("64 1 0 0 0\n" ∷ "5 0 0 0 0 0\n64 1 0 0 0 0\n" ∷ "5 0 0 0 0 0\n4 1 0 0 0 0\n" ∷ [])
     ≡ 14 ∷ 16 ∷ 14 ∷ []

@@ -49,7 +49,7 @@ radioLine s =
     } in
     found (record { radio = radio; tally = tally }) s))))))
 
--- 15: more than 1,000,000 blocks, or numbers that can't be counts. A tally that takes no block more is listed too
+-- 15: more than 1,000,000 blocks, or numbers that can't be counts. A full tally is listed too
 abbrev pub listedNumber : Tally → ℕ
 listedNumber t = check (leb (t .blocks) mostBlocks) 15 (check (consistent t) 15 0)
 
@@ -85,7 +85,7 @@ abbrev pub goOn : Checked → (Entry → List ℕ → Listed) → Listed
 goOn (passed e s) next = next e s
 goOn (failed number) next = refused number
 
--- the lines to the end of the text, where no radio below `least` may come any more: each puts its tally at its radio,
+-- the lines to the end of the text, where the radio must be `least` or above: each puts its tally at its radio,
 -- and the first that fails decides. Fewer than n lines can pass
 unfoldable pub readLines : ℕ → ℕ → List Tally → List ℕ → Listed
 readLines zero least tallies s = refused 14

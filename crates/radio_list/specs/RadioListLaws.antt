@@ -7,12 +7,11 @@ use native.Mathlib.Numerals.{add-one}
 use native.Mathlib.Omega.{arith}
 use borrow.Author.Tests.{ltb-true, leb-true, le-leb, lt-leb}
 use lib.Dec.{ltb, leb}
-use lib.ListN.{length, getD, drop, set, replicate, length-set, length-drop, drop-of-length-le}
+use lib.ListN.{length, drop, set, length-drop, drop-of-length-le}
 use Rattle.calls.specs.NumberLaws.{check-passed, first-refusal-passed}
 use Rattle.tally.specs.declared.Tally.{Tally}
 use Rattle.tally.specs.Tally.{mostBlocks, consistent}
-use Rattle.tally.specs.Runs.{none}
-use Rattle.tally.specs.TallyLaws.{Countable, consistent-facts, none-consistent}
+use Rattle.tally.specs.TallyLaws.{UsableOrFull, consistent-facts, none-usable-or-full}
 use Rattle.radios.specs.Radios.{radioCount, radioNumber}
 use Rattle.radios.specs.RadioLaws.{EveryTally, zeros-every, set-every}
 use Rattle.radios.specs.Runs.{noBlocks}
@@ -41,11 +40,11 @@ use Rattle.radio_list.specs.RadioList.{
 
 -- ---- a line that passes
 
--- what a line that passes has, where no radio below `least` may come any more
+-- what a line that passes has, where the radio must be `least` or above
 pub record Passes (least : ℕ) (e : Entry) : Type 0 where
   pub least-le : least ≤ e .radio
   pub radio-lt : e .radio < radioCount
-  pub countable : Countable (e .tally)
+  pub usable : UsableOrFull (e .tally)
 
 entry-passes : (least : ℕ) (e : Entry) → entryNumber least e ≡ 0 → Passes least e
 entry-passes least e h =
@@ -55,7 +54,7 @@ entry-passes least e h =
     record {
       least-le = leb-true least (e .radio) (rising .0);
       radio-lt = ltb-true (e .radio) radioCount (check-passed (ltb (e .radio) radioCount) 15 0 (all .0) .0);
-      countable =
+      usable =
           record {
             blocks-le = leb-true (e .tally .blocks) mostBlocks (blocks .0);
             fits = consistent-facts (e .tally) (check-passed (consistent (e .tally)) 14 0 (blocks .1) .0);
@@ -157,37 +156,38 @@ module _ (t : List ℕ) where
 
 -- ---- an accepted list
 
-none-countable : Countable none
-none-countable = record { blocks-le = omega arith; fits = none-consistent }
-
-lines-countable : (n least : ℕ) (tallies : List Tally) (s : List ℕ) (end : List Tally) → EveryTally Countable tallies
+lines-usable-or-full : (n least : ℕ) (tallies : List Tally) (s : List ℕ) (end : List Tally)
+    → EveryTally UsableOrFull tallies
     → readLines n least tallies s ≡ listed end
-    → EveryTally Countable end
+    → EveryTally UsableOrFull end
 unfolding readLines
-lines-countable zero least tallies s end all h = let g : _≡_ {A = ℕ} 0 1 = cc in absurd (omega arith)
-lines-countable (suc n) least tallies s end all h =
-    ended s (checkedLine least s) refl h (λ next ts u. lines-countable n next ts u end)
+lines-usable-or-full zero least tallies s end all h = let g : _≡_ {A = ℕ} 0 1 = cc in absurd (omega arith)
+lines-usable-or-full (suc n) least tallies s end all h =
+    ended s (checkedLine least s) refl h (λ next ts u. lines-usable-or-full n next ts u end)
   where
     ended : (u : List ℕ) (r : Checked) → checkedLine least s ≡ r
         → atEnd u (listed tallies)
         (goOn r (λ e u. readLines n (suc (e .radio)) (set tallies (e .radio) (e .tally)) u)) ≡ listed end
-        → ((next : ℕ) (ts : List Tally) (u : List ℕ) → EveryTally Countable ts → readLines n next ts u ≡ listed end
-        → EveryTally Countable end)
-        → EveryTally Countable end
+        → ((next : ℕ) (ts : List Tally) (u : List ℕ) → EveryTally UsableOrFull ts → readLines n next ts u ≡ listed end
+        → EveryTally UsableOrFull end)
+        → EveryTally UsableOrFull end
     ended [] r g h later = let same : tallies ≡ end = cc in rw same at all
     ended (b ∷ u) (passed e v) g h later =
         later (suc (e .radio)) (set tallies (e .radio) (e .tally)) v
-        (set-every Countable tallies (e .radio) (e .tally) all (line-passes least s e v g .countable)) h
+        (set-every UsableOrFull tallies (e .radio) (e .tally) all (line-passes least s e v g .usable)) h
     ended (b ∷ u) (failed number) g h later = let g : _≡_ {A = ℕ} 0 1 = cc in absurd (omega arith)
 
 -- in an accepted list the tally of every radio can be counts of at most 1,000,000 blocks
-pub list-countable : (t : List ℕ) (tallies : List Tally) → meaning t ≡ listed tallies → EveryTally Countable tallies
+pub list-usable-or-full : (t : List ℕ) (tallies : List Tally) → meaning t ≡ listed tallies
+    → EveryTally UsableOrFull tallies
 unfolding meaning
-list-countable t tallies h = split (leb (length t) longestList) (literal listNames t) h
+list-usable-or-full t tallies h = split (leb (length t) longestList) (literal listNames t) h
   where
     split : (short : Bool) (r : Reading Unit)
         → cond short (ifFound r (refused 14) (λ _ s. linesFrom 0 noBlocks s)) (refused 14) ≡ listed tallies
-        → EveryTally Countable tallies
-    split true (found _ s) h = lines-countable (suc radioCount) 0 noBlocks s tallies (zeros-every Countable none-countable radioCount) h
+        → EveryTally UsableOrFull tallies
+    split true (found _ s) h =
+        lines-usable-or-full (suc radioCount) 0 noBlocks s tallies
+        (zeros-every UsableOrFull none-usable-or-full radioCount) h
     split true malformed h = let g : _≡_ {A = ℕ} 0 1 = cc in absurd (omega arith)
     split false r h = let g : _≡_ {A = ℕ} 0 1 = cc in absurd (omega arith)

@@ -79,7 +79,7 @@ fn read_line(text: &[u8], at: usize) -> Line
     Line::Found { radio, tally, next }
 }
 
-// A line where no radio below `least` may come any more.
+// A line where the radio must be `least` or above.
 fn check_line(text: &[u8], at: usize, least: u32) -> Checked
     requires { ⌜ at ≤ length (now text) ⌝ }
     ensures { λ r. ⌜ checkedLine least (drop at (now (text .entry))) ≡ checkedRead (now (text .entry)) r ⌝ }

@@ -1,13 +1,11 @@
 -- The boundary values of 16, that 15 looks at one tally, and a run of calls by hand. Computed facts.
-use Prim.Native.Nat.{ℕ}
 use mathlib.Core.Path.{_≡_, refl}
 use mathlib.Core.List.{List, [], _∷_, map}
 use lib.ListN.{set}
-use Rattle.decoder.specs.Decoder.{Result, refused, ended}
+use Rattle.decoder.specs.Decoder.{refused, ended}
 use Rattle.tally.specs.declared.Tally.{Tally}
 use Rattle.tally.specs.Cases.{tally}
-use Rattle.tally.specs.Runs.{none}
-use Rattle.radios.specs.Radios.{radioNumber, tallyOf, radioCallNumber, talliesOf}
+use Rattle.radios.specs.Radios.{radioNumber, radioCallNumber, talliesCounted}
 use Rattle.radios.specs.Runs.{noBlocks, sumOver}
 
 -- the largest number of 32 bits last
@@ -25,7 +23,7 @@ own-tally-only = refl
 
 -- calls for radios 5, 5 and 63: an ending by either reason and a refusal
 abbrev counted-three : List Tally
-counted-three = talliesOf 63 (talliesOf 5 (talliesOf 5 noBlocks (ended 7 1)) (ended 200 2)) (refused 10)
+counted-three = talliesCounted 63 (talliesCounted 5 (talliesCounted 5 noBlocks (ended 7 1)) (ended 200 2)) (refused 10)
 
 pub counted-in-turn : counted-three ≡ set (set noBlocks 5 (tally 2 1 1 0 207)) 63 (tally 1 0 0 1 0)
 counted-in-turn = refl
@@ -34,8 +32,8 @@ pub their-sum : sumOver counted-three ≡ tally 3 1 1 1 207
 their-sum = refl
 
 -- what 15 and 16 refuse leaves all 64 as they were
-pub kept-on-15 : talliesOf 5 some-unusable (ended 7 1) ≡ some-unusable
+pub kept-on-15 : talliesCounted 5 some-unusable (ended 7 1) ≡ some-unusable
 kept-on-15 = refl
 
-pub kept-on-16 : talliesOf 64 counted-three (ended 7 1) ≡ counted-three
+pub kept-on-16 : talliesCounted 64 counted-three (ended 7 1) ≡ counted-three
 kept-on-16 = refl

@@ -1,27 +1,25 @@
 -- Laws of the tallies of the radios: a call leaves the others unchanged, and over any run of calls each tally is what
 -- the calls made for its radio alone would have left.
-use Prim.Native.Nat.{ℕ, zero, suc, _+_, _≤_, _<_}
-use mathlib.Core.Path.{_≡_, refl, sym, ap, ap₂, _∙_}
+use Prim.Native.Nat.{ℕ, zero, suc, _<_}
+use mathlib.Core.Path.{_≡_, refl, sym, ap, ap₂, _∙_, subst}
 use mathlib.Core.Bool.{Bool, true, false, cond}
-use mathlib.Core.List.{List, [], _∷_, map}
-use native.Mathlib.Omega.{arith}
-use lib.Dec.{ltb, eqb}
+use mathlib.Core.List.{List, [], _∷_}
+use lib.Dec.{eqb}
 use lib.IntN.{ℤ}
-use lib.ListN.{length, getD, set, replicate, length-set, getD-replicate}
+use lib.ListN.{length, set, replicate, length-set, getD-replicate}
 use lib.Seq.{getD-set-same, getD-set-other, set-getD}
-use borrow.Author.Tests.{ltb-true, ltb-false, eqb-true, eqb-false, lt-ltb, le-ltb}
-use Rattle.calls.specs.Numbers.{check, firstRefusal}
+use borrow.Author.Tests.{eqb-true, eqb-false, lt-ltb}
 use Rattle.calls.specs.LentMemory.{unlessRefused}
 use Rattle.settings.specs.declared.Settings.{Settings}
 use Rattle.settings.specs.Slices.{Slices}
 use Rattle.decoder.specs.Decoder.{Result, decodeResult}
 use Rattle.tally.specs.declared.Tally.{Tally}
-use Rattle.tally.specs.Tally.{mostBlocks, tallyNumber, counted, answerBy, tallyBy}
+use Rattle.tally.specs.Tally.{tallyNumber, counted, answerBy, tallyBy}
 use Rattle.tally.specs.Runs.{Call, decoded, none, tallyAfter, answers, others, countsOver}
-use Rattle.tally.specs.TallyLaws.{tally-counts}
+use Rattle.tally.specs.TallyLaws.{UsableOrFull, tally-counts, run-usable-or-full}
 use Rattle.radios.specs.declared.Radios.{Radios}
 use Rattle.radios.specs.declared.RadioTallied.{RadioTallied}
-use Rattle.radios.specs.Radios.{radioCount, radioNumber, tallyOf, radioCallNumber, talliesOf, RadioDecode}
+use Rattle.radios.specs.Radios.{radioCount, tallyOf, radioCallNumber, talliesCounted, RadioDecode}
 use Rattle.radios.specs.Runs.{
   CallFor,
   noBlocks,
@@ -69,7 +67,8 @@ module _ (radio : ℕ) (tallies : List Tally) (r : Result) where
   after number = unlessRefused number (set tallies radio (counted own r)) tallies
 
   -- the others come back unchanged
-  pub others-kept : (other : ℕ) → (other ≡ radio → ⊥) → tallyOf other (talliesOf radio tallies r) ≡ tallyOf other tallies
+  others-kept : (other : ℕ) → (other ≡ radio → ⊥)
+      → tallyOf other (talliesCounted radio tallies r) ≡ tallyOf other tallies
   others-kept other ne = by-number (radioCallNumber radio tallies)
     where
       by-number : (number : ℕ) → tallyOf other (after number) ≡ tallyOf other tallies
@@ -77,20 +76,20 @@ module _ (radio : ℕ) (tallies : List Tally) (r : Result) where
       by-number (suc number) = refl
 
   -- there are as many as before
-  pub tallies-length : length (talliesOf radio tallies r) ≡ length tallies
+  pub tallies-length : length (talliesCounted radio tallies r) ≡ length tallies
   tallies-length = by-number (radioCallNumber radio tallies)
     where
       by-number : (number : ℕ) → length (after number) ≡ length tallies
       by-number zero = length-set tallies radio (counted own r)
       by-number (suc number) = refl
 
-  -- 16 doesn't refuse a radio that there is, and 15 looks at its own tally only
-  pub own-number : radio < radioCount → radioCallNumber radio tallies ≡ tallyNumber own
+  -- 16 doesn't refuse a radio below 64, and 15 looks at its own tally only
+  own-number : radio < radioCount → radioCallNumber radio tallies ≡ tallyNumber own
   own-number h = rw (lt-ltb radio radioCount h)
 
   -- its own tally is what a call of the one tally leaves
-  pub own-counted : radio < radioCount → length tallies ≡ radioCount
-      → tallyOf radio (talliesOf radio tallies r) ≡ tallyBy (tallyNumber own) own r
+  own-counted : radio < radioCount → length tallies ≡ radioCount
+      → tallyOf radio (talliesCounted radio tallies r) ≡ tallyBy (tallyNumber own) own r
   own-counted h all = ap (λ (number : ℕ). tallyOf radio (after number)) (own-number h) ∙ by-number (tallyNumber own)
     where
       by-number : (number : ℕ) → tallyOf radio (after number) ≡ tallyBy number own r
@@ -98,15 +97,15 @@ module _ (radio : ℕ) (tallies : List Tally) (r : Result) where
       by-number (suc number) = refl
 
 -- "The other 63 come back unchanged", of every call, refused ones too
-pub others-unchanged : {radios : Radios} {radio : ℕ} {s : Settings} {mask : List ℕ} {llr : List ℤ} {before after : Slices}
-    {r : RadioTallied} → RadioDecode radios radio s mask llr before after r
+pub others-unchanged : {radios : Radios} {radio : ℕ} {s : Settings} {mask : List ℕ} {llr : List ℤ}
+    {before after : Slices} {r : RadioTallied} → RadioDecode radios radio s mask llr before after r
     → (other : ℕ) → (other ≡ radio → ⊥) → tallyOf other (r .radios .tallies) ≡ tallyOf other (radios .tallies)
 others-unchanged {radios} {radio} {s} {mask} {llr} {before} d other ne =
     rw (d .tallies-are) (others-kept radio (radios .tallies) (decodeResult s mask llr before) other ne)
 
 -- ---- the calls made for one radio
 
--- they, without the others
+-- these calls alone
 abbrev callsFor : ℕ → List CallFor → List Call
 callsFor radio [] = []
 callsFor radio (c ∷ calls) = cond (eqb (c .radio) radio) (c .call ∷ callsFor radio calls) (callsFor radio calls)
@@ -174,4 +173,15 @@ radio-counts radio h calls =
     own .tally-is
     ∙ ap (λ (t : Tally). tallyAfter t its) zeros
     ∙ tally-counts its
-    ∙ sym (ap (λ (rs : List Result). countsOver (others rs)) (own .answers-are ∙ ap (λ (t : Tally). answers t its) zeros))
+    ∙ sym
+    (ap (λ (rs : List Result). countsOver (others rs)) (own .answers-are ∙ ap (λ (t : Tally). answers t its) zeros))
+
+-- so a list of what calls from zeros left holds no tally that can't be counts
+pub radio-usable-or-full : (radio : ℕ) → radio < radioCount → (calls : List CallFor)
+    → UsableOrFull (tallyOf radio (talliesAfter noBlocks calls))
+radio-usable-or-full radio h calls =
+    subst UsableOrFull
+    (sym
+    (own-run radio h calls noBlocks refl .tally-is
+    ∙ ap (λ (t : Tally). tallyAfter t (callsFor radio calls)) (getD-replicate radioCount radio none none h)))
+    (run-usable-or-full (callsFor radio calls))

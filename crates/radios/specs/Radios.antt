@@ -32,9 +32,10 @@ tallyOf radio tallies = getD tallies radio none
 abbrev pub radioCallNumber : ℕ → List Tally → ℕ
 radioCallNumber radio tallies = firstRefusal (radioNumber radio) (tallyNumber (tallyOf radio tallies))
 
--- the tallies after a call, by the decoder's answer: it counts in the radio's own; after 16 and 15 they are as they were
-abbrev pub talliesOf : ℕ → List Tally → Result → List Tally
-talliesOf radio tallies r =
+-- the tallies after a call, by the decoder's answer: it counts in the radio's own; after 16 and 15 all are as they
+-- were
+abbrev pub talliesCounted : ℕ → List Tally → Result → List Tally
+talliesCounted radio tallies r =
     unlessRefused (radioCallNumber radio tallies) (set tallies radio (counted (tallyOf radio tallies) r)) tallies
 
 -- ---- the promise of a call for a radio: answer, all tallies, and the lent slices afterwards
@@ -43,6 +44,6 @@ pub record RadioDecode (radios : Radios) (radio : ℕ) (s : Settings) (mask : Li
     (before after : Slices) (r : RadioTallied) : Type 0 where
   pub answer : resultOf (r .outcome)
       ≡ answerBy (radioCallNumber radio (radios .tallies)) (decodeResult s mask llr before)
-  pub tallies-are : r .radios .tallies ≡ talliesOf radio (radios .tallies) (decodeResult s mask llr before)
+  pub tallies-are : r .radios .tallies ≡ talliesCounted radio (radios .tallies) (decodeResult s mask llr before)
   pub slices : after
       ≡ unlessRefused (radioCallNumber radio (radios .tallies)) (decodeSlices s mask llr before) before

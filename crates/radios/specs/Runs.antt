@@ -9,7 +9,7 @@ use Rattle.decoder.specs.Decoder.{Result}
 use Rattle.tally.specs.declared.Tally.{Tally}
 use Rattle.tally.specs.Tally.{answerBy}
 use Rattle.tally.specs.Runs.{Call, decoded, none, plus}
-use Rattle.radios.specs.Radios.{radioCount, radioNumber, radioCallNumber, talliesOf}
+use Rattle.radios.specs.Radios.{radioCount, radioNumber, radioCallNumber, talliesCounted}
 
 -- a call for a radio: what it is handed beside the tallies
 pub record CallFor : Type 0 where
@@ -22,14 +22,14 @@ noBlocks = replicate radioCount none
 
 -- the tallies that a call leaves, and its answer
 abbrev pub talliesBy : List Tally → CallFor → List Tally
-talliesBy tallies c = talliesOf (c .radio) tallies (decoded (c .call))
+talliesBy tallies c = talliesCounted (c .radio) tallies (decoded (c .call))
 
 abbrev pub answerFor : List Tally → CallFor → Result
 answerFor tallies c = answerBy (radioCallNumber (c .radio) tallies) (decoded (c .call))
 
 -- its answer where 15 doesn't refuse it: 16, or the decoder's
-abbrev pub answerUntallied : CallFor → Result
-answerUntallied c = answerBy (radioNumber (c .radio)) (decoded (c .call))
+abbrev pub answerWithout15 : CallFor → Result
+answerWithout15 c = answerBy (radioNumber (c .radio)) (decoded (c .call))
 
 -- those of a run of calls
 abbrev pub talliesAfter : List Tally → List CallFor → List Tally
@@ -49,10 +49,10 @@ answersTo radio tallies (c ∷ calls) =
     let later = answersTo radio (talliesBy tallies c) calls in
     cond (eqb (c .radio) radio) (answerFor tallies c ∷ later) later
 
--- the calls of some radio that there is
-abbrev pub served : List CallFor → List Call
-served [] = []
-served (c ∷ calls) = cond (ltb (c .radio) radioCount) (c .call ∷ served calls) (served calls)
+-- the calls that 16 doesn't refuse
+abbrev pub knownCalls : List CallFor → List Call
+knownCalls [] = []
+knownCalls (c ∷ calls) = cond (ltb (c .radio) radioCount) (c .call ∷ knownCalls calls) (knownCalls calls)
 
 -- ---- the sum over the radios, number by number
 

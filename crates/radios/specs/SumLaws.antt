@@ -5,15 +5,14 @@ use mathlib.Core.Path.{_≡_, refl, sym, ap, ap₂, _∙_}
 use mathlib.Core.Bool.{Bool, true, false, cond, true≢false}
 use mathlib.Core.List.{List, [], _∷_, map}
 use native.Mathlib.Omega.{arith}
-use lib.Dec.{ltb, eqb}
-use lib.ListN.{length, getD, set, replicate}
-use borrow.Author.Tests.{ltb-true, ltb-false, eqb-true, eqb-false}
-use Rattle.calls.specs.Numbers.{check, firstRefusal}
-use Rattle.calls.specs.LentMemory.{unlessRefused}
+use lib.Dec.{ltb}
+use lib.ListN.{length, set, replicate}
+use borrow.Author.Tests.{ltb-true, ltb-false}
+use Rattle.calls.specs.Numbers.{check}
 use Rattle.decoder.specs.Decoder.{Result}
 use Rattle.tally.specs.declared.Tally.{Tally}
 use Rattle.tally.specs.Tally.{mostBlocks, tallyNumber, counted, answerBy, tallyBy}
-use Rattle.tally.specs.Runs.{Call, decoded, none, plus, tallyAfter}
+use Rattle.tally.specs.Runs.{decoded, none, plus, tallyAfter, counts, others}
 use Rattle.tally.specs.Private.{single}
 use Rattle.tally.specs.TallyLaws.{
   Consistent,
@@ -27,18 +26,19 @@ use Rattle.tally.specs.TallyLaws.{
   counted-plus,
   decoded-answer,
   blocks-counted,
+  answer-counts,
 }
-use Rattle.radios.specs.Radios.{radioCount, radioNumber, tallyOf, radioCallNumber, talliesOf}
+use Rattle.radios.specs.Radios.{radioCount, tallyOf}
 use Rattle.radios.specs.RadioLaws.{EveryTally, zeros-every, set-every, tallies-length}
 use Rattle.radios.specs.Runs.{
   CallFor,
   noBlocks,
   talliesBy,
   answerFor,
-  answerUntallied,
+  answerWithout15,
   talliesAfter,
   radioAnswers,
-  served,
+  knownCalls,
   sumOver,
 }
 
@@ -50,7 +50,7 @@ own-blocks [] radio = omega arith
 own-blocks (t ∷ tallies) zero = omega arith
 own-blocks (t ∷ tallies) (suc radio) = omega (arith, own-blocks tallies radio)
 
--- what one tally has more, the sum has more
+-- what is added to one tally is added to the sum
 sum-plus : (tallies : List Tally) (radio : ℕ) (u : Tally) → radio < length tallies
     → sumOver (set tallies radio (plus (tallyOf radio tallies) u)) ≡ plus (sumOver tallies) u
 sum-plus [] radio u h = absurd (omega arith)
@@ -59,11 +59,11 @@ sum-plus (t ∷ tallies) (suc radio) u h =
     ap (plus t) (sum-plus tallies radio u (omega arith))
     ∙ same-tally (omega arith) (omega arith) (omega arith) (omega arith) (omega arith)
 
--- every tally could be counts
+-- every tally is consistent
 abbrev AllConsistent : List Tally → Type 0
 AllConsistent = EveryTally Consistent
 
--- then so could the sum
+-- then so is the sum
 sum-consistent : (tallies : List Tally) → AllConsistent tallies → Consistent (sumOver tallies)
 sum-consistent [] each = each 0
 sum-consistent (t ∷ tallies) each = plus-consistent (each 0) (sum-consistent tallies (λ radio. each (suc radio)))
@@ -75,20 +75,19 @@ zeros-sum : (n : ℕ) → sumOver (replicate n none) ≡ none
 zeros-sum zero = refl
 zeros-sum (suc n) = ap (plus none) (zeros-sum n)
 
+usable-below : (t : Tally) → Consistent t → t .blocks < mostBlocks → tallyNumber t ≡ 0
+usable-below t fits few = usable-number t (record { blocks-lt = few; fits = fits })
+
 -- such a tally is refused only where it is full
 full : (t : Tally) → Consistent t → {number : ℕ} → tallyNumber t ≡ suc number → mostBlocks ≤ t .blocks
 full t fits e = split (ltb (t .blocks) mostBlocks) refl
   where
     split : (test : Bool) → ltb (t .blocks) mostBlocks ≡ test → mostBlocks ≤ t .blocks
     split true h =
-        let u = usable-number t (record { blocks-lt = ltb-true (t .blocks) mostBlocks h; fits = fits }) in
-        absurd (omega arith)
+        let u = usable-below t fits (ltb-true (t .blocks) mostBlocks h) in absurd (omega arith)
     split false h = ltb-false (t .blocks) mostBlocks h
 
-usable-below : (t : Tally) → Consistent t → t .blocks < mostBlocks → tallyNumber t ≡ 0
-usable-below t fits few = usable-number t (record { blocks-lt = few; fits = fits })
-
--- ---- one call, of tallies that could be counts
+-- ---- one call, of consistent tallies
 
 module _ (tallies : List Tally) (c : CallFor) where
   abbrev own : Tally
@@ -100,7 +99,8 @@ module _ (tallies : List Tally) (c : CallFor) where
   -- the three ways of a call: refused with 16, refused with 15, counted
   by-call : {P : Type 0}
       → (ltb (c .radio) radioCount ≡ false → talliesBy tallies c ≡ tallies → P)
-      → ((number : ℕ) → ltb (c .radio) radioCount ≡ true → tallyNumber own ≡ suc number → talliesBy tallies c ≡ tallies → P)
+      → ((number : ℕ) → ltb (c .radio) radioCount ≡ true → tallyNumber own ≡ suc number
+      → talliesBy tallies c ≡ tallies → P)
       → (ltb (c .radio) radioCount ≡ true → tallyNumber own ≡ 0
       → talliesBy tallies c ≡ set tallies (c .radio) (counted own answer) → P) → P
   by-call {P} unknown unusable taken = split (ltb (c .radio) radioCount) (tallyNumber own) refl refl
@@ -167,34 +167,36 @@ module _ (tallies : List Tally) (c : CallFor) where
 -- ---- a run of calls
 
 module _ (c : CallFor) (calls : List CallFor) where
-  served-known : ltb (c .radio) radioCount ≡ true → served (c ∷ calls) ≡ c .call ∷ served calls
-  served-known h = rw h
+  known-call-kept : ltb (c .radio) radioCount ≡ true → knownCalls (c ∷ calls) ≡ c .call ∷ knownCalls calls
+  known-call-kept h = rw h
 
-  served-unknown : ltb (c .radio) radioCount ≡ false → served (c ∷ calls) ≡ served calls
-  served-unknown h = rw h
+  unknown-call-left-out : ltb (c .radio) radioCount ≡ false → knownCalls (c ∷ calls) ≡ knownCalls calls
+  unknown-call-left-out h = rw h
 
-  served-length : length (served (c ∷ calls)) ≡ cond (ltb (c .radio) radioCount) 1 0 + length (served calls)
-  served-length = split (ltb (c .radio) radioCount)
+  known-calls-length : length (knownCalls (c ∷ calls))
+      ≡ cond (ltb (c .radio) radioCount) 1 0 + length (knownCalls calls)
+  known-calls-length = split (ltb (c .radio) radioCount)
     where
       split : (test : Bool)
-          → length (cond test (c .call ∷ served calls) (served calls)) ≡ cond test 1 0 + length (served calls)
+          → length (cond test (c .call ∷ knownCalls calls) (knownCalls calls))
+          ≡ cond test 1 0 + length (knownCalls calls)
       split true = omega arith
       split false = omega arith
 
 -- blocks are never taken back, and each call brings one at most
 blocks-between : (calls : List CallFor) (tallies : List Tally) → length tallies ≡ radioCount
     → (sumOver tallies .blocks ≤ sumOver (talliesAfter tallies calls) .blocks) ×
-    (sumOver (talliesAfter tallies calls) .blocks ≤ sumOver tallies .blocks + length (served calls))
+    (sumOver (talliesAfter tallies calls) .blocks ≤ sumOver tallies .blocks + length (knownCalls calls))
 blocks-between [] tallies all = (omega arith, omega arith)
 blocks-between (c ∷ calls) tallies all =
     let later = blocks-between calls (talliesBy tallies c) (next-length tallies c all) in
     let now = next-blocks tallies c all in
-    (omega (arith, later .0, now .0), omega (arith, later .1, now .1, served-length c calls))
+    (omega (arith, later .0, now .0), omega (arith, later .1, now .1, known-calls-length c calls))
 
--- from tallies that could be counts
+-- from consistent tallies
 sum-from : (calls : List CallFor) (tallies : List Tally) → length tallies ≡ radioCount → AllConsistent tallies
     → sumOver (talliesAfter tallies calls) .blocks ≤ mostBlocks
-    → sumOver (talliesAfter tallies calls) ≡ tallyAfter (sumOver tallies) (served calls)
+    → sumOver (talliesAfter tallies calls) ≡ tallyAfter (sumOver tallies) (knownCalls calls)
 sum-from [] tallies all each few = refl
 sum-from (c ∷ calls) tallies all each few =
     let next-all = next-length tallies c all in
@@ -203,29 +205,29 @@ sum-from (c ∷ calls) tallies all each few =
   where
     split : (test : Bool) → ltb (c .radio) radioCount ≡ test
         → sumOver (talliesAfter (talliesBy tallies c) calls)
-        ≡ tallyAfter (sumOver (talliesBy tallies c)) (served calls)
+        ≡ tallyAfter (sumOver (talliesBy tallies c)) (knownCalls calls)
         → sumOver (talliesBy tallies c) .blocks ≤ mostBlocks
-        → sumOver (talliesAfter (talliesBy tallies c) calls) ≡ tallyAfter (sumOver tallies) (served (c ∷ calls))
+        → sumOver (talliesAfter (talliesBy tallies c) calls) ≡ tallyAfter (sumOver tallies) (knownCalls (c ∷ calls))
     split true h later few =
         later
-        ∙ ap (λ (t : Tally). tallyAfter t (served calls)) (next-sum tallies c all each h few)
-        ∙ sym (ap (tallyAfter (sumOver tallies)) (served-known c calls h))
+        ∙ ap (λ (t : Tally). tallyAfter t (knownCalls calls)) (next-sum tallies c all each h few)
+        ∙ sym (ap (tallyAfter (sumOver tallies)) (known-call-kept c calls h))
     split false h later few =
         later
-        ∙ ap (λ (ts : List Tally). tallyAfter (sumOver ts) (served calls)) (unknown-keeps tallies c h)
-        ∙ sym (ap (tallyAfter (sumOver tallies)) (served-unknown c calls h))
+        ∙ ap (λ (ts : List Tally). tallyAfter (sumOver ts) (knownCalls calls)) (unknown-keeps tallies c h)
+        ∙ sym (ap (tallyAfter (sumOver tallies)) (unknown-call-left-out c calls h))
 
 -- "From zeros and up to 1,000,000 blocks in all, the sum over radios is what the single tally would have counted, calls
 -- refused with 16 left out"
 pub radios-sum : (calls : List CallFor) → sumOver (talliesAfter noBlocks calls) .blocks ≤ mostBlocks
-    → sumOver (talliesAfter noBlocks calls) ≡ tallyAfter none (served calls)
+    → sumOver (talliesAfter noBlocks calls) ≡ tallyAfter none (knownCalls calls)
 radios-sum calls few =
     sum-from calls noBlocks refl zeros-consistent few
-    ∙ ap (λ (t : Tally). tallyAfter t (served calls)) (zeros-sum radioCount)
+    ∙ ap (λ (t : Tally). tallyAfter t (knownCalls calls)) (zeros-sum radioCount)
 
 -- so it is after up to 1,000,000 calls that 16 doesn't refuse
-pub radios-sum-of-calls : (calls : List CallFor) → length (served calls) ≤ mostBlocks
-    → sumOver (talliesAfter noBlocks calls) ≡ tallyAfter none (served calls)
+pub radios-sum-of-calls : (calls : List CallFor) → length (knownCalls calls) ≤ mostBlocks
+    → sumOver (talliesAfter noBlocks calls) ≡ tallyAfter none (knownCalls calls)
 radios-sum-of-calls calls few =
     radios-sum calls
     (omega (arith, blocks-between calls noBlocks refl .1, ap (λ (t : Tally). t .blocks) (zeros-sum radioCount)))
@@ -233,26 +235,43 @@ radios-sum-of-calls calls few =
 -- ---- 15
 
 answered-from : (calls : List CallFor) (tallies : List Tally) → length tallies ≡ radioCount → AllConsistent tallies
-    → sumOver tallies .blocks + length (served calls) ≤ mostBlocks
-    → radioAnswers tallies calls ≡ map answerUntallied calls
+    → sumOver tallies .blocks + length (knownCalls calls) ≤ mostBlocks
+    → radioAnswers tallies calls ≡ map answerWithout15 calls
 answered-from [] tallies all each few = refl
 answered-from (c ∷ calls) tallies all each few =
     ap₂ (λ (r : Result) (rs : List Result). r ∷ rs) (by-own (ltb (c .radio) radioCount) refl)
     (answered-from calls (talliesBy tallies c) (next-length tallies c all) (next-consistent tallies c each)
-    (omega (arith, next-blocks tallies c all .1, served-length c calls)))
+    (omega (arith, next-blocks tallies c all .1, known-calls-length c calls)))
   where
-    by-own : (test : Bool) → ltb (c .radio) radioCount ≡ test → answerFor tallies c ≡ answerUntallied c
+    by-own : (test : Bool) → ltb (c .radio) radioCount ≡ test → answerFor tallies c ≡ answerWithout15 c
     by-own true h =
         let own = tallyOf (c .radio) tallies in
         let below = usable-below own (each (c .radio))
-        (omega (arith, own-blocks tallies (c .radio), ap length (served-known c calls h))) in
+        (omega (arith, own-blocks tallies (c .radio), ap length (known-call-kept c calls h))) in
         rw (h, below)
     by-own false h = rw h
 
 -- of the first 1,000,000 calls from zeros that 16 doesn't refuse none is refused with 15: each answer is 16 or the
 -- decoder's
-pub radios-answered : (calls : List CallFor) → length (served calls) ≤ mostBlocks
-    → radioAnswers noBlocks calls ≡ map answerUntallied calls
+pub radios-answered : (calls : List CallFor) → length (knownCalls calls) ≤ mostBlocks
+    → radioAnswers noBlocks calls ≡ map answerWithout15 calls
 radios-answered calls few =
     answered-from calls noBlocks refl zeros-consistent
     (omega (arith, ap (λ (t : Tally). t .blocks) (zeros-sum radioCount)))
+
+-- so all of them count
+pub none-refused-with-15 : (calls : List CallFor) → length (knownCalls calls) ≤ mostBlocks
+    → others (radioAnswers noBlocks calls) ≡ radioAnswers noBlocks calls
+none-refused-with-15 calls few = rw (radios-answered calls few) (all-count calls)
+  where
+    answer-counts-too : (c : CallFor) → counts (answerWithout15 c) ≡ true
+    answer-counts-too c = by-radio (ltb (c .radio) radioCount)
+      where
+        by-radio : (test : Bool) → counts (answerBy (check test 16 0) (decoded (c .call))) ≡ true
+        by-radio true = answer-counts (decoded (c .call)) (decoded-answer (c .call))
+        by-radio false = refl
+
+    all-count : (calls : List CallFor) → others (map answerWithout15 calls) ≡ map answerWithout15 calls
+    all-count [] = refl
+    all-count (c ∷ calls) =
+        rw (answer-counts-too c) (ap (λ (rs : List Result). answerWithout15 c ∷ rs) (all-count calls))

@@ -51,7 +51,7 @@ impl Radios {
         self.tallies[radio]
     }
 
-    // With another tally of one radio.
+    // The same tallies, with another for one radio.
     fn with_tally(self, radio: usize, tally: Tally) -> Radios
         requires { ⌜ radio < radioCount ⌝ }
         ensures { λ r. ⌜ r .tallies ≡ set (self .tallies) radio tally ⌝ }
@@ -61,8 +61,8 @@ impl Radios {
         radios
     }
 
-    // A decode whose answer is counted in the tally of its radio. 16 is tested first, then 15, which looks at that tally
-    // alone; after either all tallies come back unchanged, and nothing is written.
+    // A decode whose answer is counted in the tally of its radio. 16 is tested first, then 15, which looks at that
+    // tally alone; after either all tallies come back unchanged, and nothing is written.
     pub fn decode(
         self,
         radio: u32,

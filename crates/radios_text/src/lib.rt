@@ -2,7 +2,6 @@
 // It sees `radio_list`, `radio_summary` and `format`. It promises, for every byte string, the summary of what it means,
 // or its refusal as the report prints it, from the first byte of the lent array on, the old contents behind, and the
 // length. The array has room for every one.
-ghost use mathlib.Core.Path.{_≡_};
 ghost use Rattle.format.specs.Wrote.{Wrote, Within};
 ghost use Rattle.radios_text.specs.RadiosText.{summary};
 use calls::Answer;

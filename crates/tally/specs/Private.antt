@@ -1,5 +1,5 @@
--- How the code counts: the tally of one answer, which is added to the tally so far. A reader of the contract of `decode`
--- needs none of it.
+-- How the code counts: the tally of one answer, which is added to the tally so far. A reader of the contract of
+-- `decode` needs none of it.
 use mathlib.Core.Bool.{cond}
 use lib.Dec.{eqb}
 use Rattle.decoder.specs.Decoder.{Result, refused, ended}

@@ -8,7 +8,7 @@ use native.Mathlib.Omega.{arith}
 use lib.Dec.{ltb, eqb, lit<}
 use lib.ListN.{length}
 use borrow.Author.Tests.{ltb-true, eqb-true, lt-ltb, eq-eqb, ne-eqb, le-leb}
-use Rattle.calls.specs.Numbers.{check, between}
+use Rattle.calls.specs.Numbers.{check}
 use Rattle.calls.specs.NumberLaws.{check-passed, and-passed, between-passed}
 use Rattle.decoder.specs.Decoder.{Result, refused, ended}
 use Rattle.tally.specs.declared.Tally.{Tally}
@@ -38,8 +38,8 @@ pub record Usable (t : Tally) : Type 0 where
   pub blocks-lt : t .blocks < mostBlocks
   pub fits : Consistent t
 
--- what holds of every tally that calls from five zeros leave: it is usable, or full
-pub record Countable (t : Tally) : Type 0 where
+-- what holds of every tally that calls from five zeros leave (`run-usable-or-full`)
+pub record UsableOrFull (t : Tally) : Type 0 where
   pub blocks-le : t .blocks ≤ mostBlocks
   pub fits : Consistent t
 
@@ -88,13 +88,11 @@ two-tests false b h = refl
 pub refused-15 : (t : Tally) → (tallyNumber t ≡ 0 → ⊥) → tallyNumber t ≡ 15
 refused-15 t h = two-tests (ltb (t .blocks) mostBlocks) (consistent t) h
 
-pub unusable-number : (t : Tally) → (Usable t → ⊥) → tallyNumber t ≡ 15
-unusable-number t h = refused-15 t (λ e. h (usable t e))
-
 -- ---- one block more
 
 -- two tallies are equal by their numbers
-pub same-tally : {t u : Tally} → t .blocks ≡ u .blocks → t .«by_criterion» ≡ u .«by_criterion» → t .«by_limit» ≡ u .«by_limit»
+pub same-tally : {t u : Tally} → t .blocks ≡ u .blocks → t .«by_criterion» ≡ u .«by_criterion»
+    → t .«by_limit» ≡ u .«by_limit»
     → t .refusals ≡ u .refusals
     → t .iterations ≡ u .iterations → t ≡ u
 same-tally blocks criterion limit refusals iterations i =
@@ -109,6 +107,9 @@ same-tally blocks criterion limit refusals iterations i =
 pub none-consistent : Consistent none
 none-consistent = record { blocks-sum = refl; iterations-low = omega arith; iterations-high = omega arith }
 
+pub none-usable-or-full : UsableOrFull none
+none-usable-or-full = record { blocks-le = omega arith; fits = none-consistent }
+
 pub single-consistent : (r : Result) → DecoderAnswer r → Consistent (single r)
 single-consistent (refused number) d =
     record { blocks-sum = refl; iterations-low = omega arith; iterations-high = omega arith }
@@ -119,7 +120,7 @@ single-consistent (ended iteration (suc (suc zero))) d =
     record { blocks-sum = refl; iterations-low = omega arith; iterations-high = omega arith }
 single-consistent (ended iteration (suc (suc (suc n)))) d = absurd (omega arith)
 
-pub single-block : (r : Result) → single r .blocks ≡ 1
+single-block : (r : Result) → single r .blocks ≡ 1
 single-block (refused number) = refl
 single-block (ended iteration reason) = refl
 
@@ -170,6 +171,23 @@ usable-after (c ∷ calls) t h few =
 pub run-usable : (calls : List Call) → length calls < mostBlocks → tallyNumber (tallyAfter none calls) ≡ 0
 run-usable calls few = usable-after calls none refl (omega arith)
 
+left-usable-or-full : (calls : List Call) (t : Tally) → UsableOrFull t → UsableOrFull (tallyAfter t calls)
+left-usable-or-full [] t u = u
+left-usable-or-full (c ∷ calls) t u =
+    left-usable-or-full calls (tallyBy (tallyNumber t) t (decoded c)) (by-number (tallyNumber t) refl)
+  where
+    by-number : (number : ℕ) → tallyNumber t ≡ number → UsableOrFull (tallyBy number t (decoded c))
+    by-number zero h =
+        let d = decoded-answer c in
+        record {
+          blocks-le = omega (arith, blocks-counted t c, usable t h .blocks-lt);
+          fits = rw (counted-plus t (decoded c) d) (plus-consistent (u .fits) (single-consistent (decoded c) d));
+        }
+    by-number (suc number) h = u
+
+pub run-usable-or-full : (calls : List Call) → UsableOrFull (tallyAfter none calls)
+run-usable-or-full calls = left-usable-or-full calls none none-usable-or-full
+
 answered-from : (calls : List Call) (t : Tally) → tallyNumber t ≡ 0 → t .blocks + length calls ≤ mostBlocks
     → answers t calls ≡ map decoded calls
 answered-from [] t h few = refl
@@ -197,7 +215,7 @@ counted-first t (ended iteration (suc (suc zero))) rs d =
 counted-first t (ended iteration (suc (suc (suc n)))) rs d = absurd (omega arith)
 
 -- the decoder's own answer counts
-answer-counts : (r : Result) → DecoderAnswer r → counts r ≡ true
+pub answer-counts : (r : Result) → DecoderAnswer r → counts r ≡ true
 answer-counts (refused number) d = rw (ne-eqb number 15 (λ e. omega arith))
 answer-counts (ended iteration reason) d = refl
 

@@ -1,6 +1,6 @@
 -- The promise of a decoding call from its ways: refused before the decoder is called, decoded, and decoded for the
 -- tally of a radio.
-use Prim.Native.Nat.{ℕ, suc, _+_, _*_, _≤_, _<_}
+use Prim.Native.Nat.{ℕ, suc, _+_, _*_, _≤_}
 use mathlib.Core.Path.{_≡_, subst, sym, ap, _∙_}
 use mathlib.Core.Bool.{true, false}
 use mathlib.Core.List.{List, _++_}
@@ -15,7 +15,7 @@ use Rattle.decoder.specs.Decoder.{Result, resultOf, Decoded}
 use Rattle.tally.specs.declared.Tally.{Tally}
 use Rattle.tally.specs.declared.Tallied.{Tallied}
 use Rattle.tally.specs.Tally.{tallyNumber, tallyBy, TalliedDecode}
-use Rattle.radios.specs.Radios.{radioCount, tallyOf, radioCallNumber, talliesOf}
+use Rattle.radios.specs.Radios.{radioCount, tallyOf}
 use Rattle.radios.specs.RadioLaws.{own-stored}
 use Rattle.vedrogne.specs.Interface.{
   tallyLength,
@@ -100,7 +100,9 @@ module _ (radio : ℕ) (tallies settings mask : List ℕ) (llr : List ℤ) (befo
 
       module _ {tallies′ : List ℕ} {x : Slices} {iterations reason r : ℕ} {o : Tallied}
           (stored : tallies′
-          ≡ take (tallyLength * radio) tallies ++ tallyList (o .tally) ++ drop (tallyLength * radio + tallyLength) tallies)
+          ≡ take (tallyLength * radio) tallies
+          ++ tallyList (o .tally)
+          ++ drop (tallyLength * radio + tallyLength) tallies)
           (out : ResultOut (resultOf (o .outcome)) (before .iterations) (before .reason) iterations reason r) where
         counted-call : TalliedDecode own (settingsIn settings) mask llr (before .slices) x o
             → RadioCall radio tallies tallies′ settings mask llr before (lent x iterations reason) r

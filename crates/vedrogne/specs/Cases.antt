@@ -28,8 +28,8 @@ five-settings = refl
 pub six-settings : settingsListNumber (1 ∷ 31 ∷ 16 ∷ 10 ∷ 1 ∷ 0 ∷ []) ≡ 0
 six-settings = refl
 
--- a list of tallies in which radio 1 has 2 1 0 1 9, radio 2 has 1 0 0 0 0, which 15 refuses, and radio 63 has 1 0 1 0 7;
--- with one element more behind them
+-- a list of tallies in which radio 1 has 2 1 0 1 9, radio 2 has 1 0 0 0 0, which 15 refuses, and radio 63 has
+-- 1 0 1 0 7; with one element more behind them
 abbrev tallies : List ℕ
 tallies =
     0 ∷ 0 ∷ 0 ∷ 0 ∷ 0 ∷ 2 ∷ 1 ∷ 0 ∷ 1 ∷ 9 ∷ 1 ∷ 0 ∷ 0 ∷ 0 ∷ 0
@@ -38,7 +38,7 @@ tallies =
 abbrev six : List ℕ
 six = 1 ∷ 31 ∷ 16 ∷ 10 ∷ 1 ∷ 0 ∷ []
 
--- 7 of either list comes before 16, and 16 before 15, which looks at the radio's own numbers
+-- 7 of either list comes before 16; 15 looks at the radio's own numbers
 pub short-of-one : radioFirstNumber 64 (take 319 tallies) six ≡ 7
 short-of-one = refl
 

@@ -14,7 +14,7 @@ use Rattle.settings.specs.Slices.{Slices}
 use Rattle.decoder.specs.Decoder.{Result, refused, ended, decodeResult, decodeSlices}
 use Rattle.tally.specs.declared.Tally.{Tally}
 use Rattle.tally.specs.Tally.{answerBy}
-use Rattle.radios.specs.Radios.{radioCount, radioCallNumber, talliesOf}
+use Rattle.radios.specs.Radios.{radioCount, radioCallNumber, talliesCounted}
 
 abbrev pub codeIn : ℕ → Code
 codeIn m = record { m = m }
@@ -126,11 +126,12 @@ module _ (first : ℕ) (settings mask : List ℕ) (llr : List ℤ) (before : Len
 
 -- ---- the promise of `vedrogne_decode_radio`: the same, and the tallies afterwards
 
--- after the 7 of a short list they are as they were; else they are those that the method `decode` of `Radios` hands back
+-- after the 7 of a short list they are as they were; else they are those that the method `decode` of `Radios` hands
+-- back
 abbrev pub talliesListAfter : ℕ → List ℕ → List ℕ → Result → List ℕ
 talliesListAfter radio tallies settings answer =
     unlessRefused (listsNumber tallies settings)
-    (talliesOut (talliesOf radio (talliesIn tallies) answer) tallies) tallies
+    (talliesOut (talliesCounted radio (talliesIn tallies) answer) tallies) tallies
 
 pub record RadioCall (radio : ℕ) (tallies tallies′ settings mask : List ℕ) (llr : List ℤ) (before after : Lent) (r : ℕ)
     : Type 0 where

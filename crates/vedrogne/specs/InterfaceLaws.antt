@@ -13,7 +13,7 @@ use Rattle.decoder.specs.Decoder.{Ending, ending, Result, resultBy, callNumber}
 use Rattle.tally.specs.declared.Tally.{Tally}
 use Rattle.tally.specs.Tally.{answerBy}
 use Rattle.tally.specs.TallyLaws.{same-tally}
-use Rattle.radios.specs.Radios.{radioCount, tallyOf, radioCallNumber, talliesOf}
+use Rattle.radios.specs.Radios.{radioCount, tallyOf, radioCallNumber, talliesCounted}
 use Rattle.vedrogne.specs.Interface.{
   settingsLength,
   tallyLength,

@@ -2,8 +2,8 @@
 // include/vedrogne.h declares them.
 // It sees the promises of `calls`, `polar`, `channel`, `settings`, `decoder`, `tally`, `radios`, `report_input`,
 // `report_writer` and `report_text`. It promises that each function returns its call's number, 0 or a refusal's,
-// and leaves in every lent slice what the call's definition says; after a refusal nothing has changed, save a tally that
-// counts it.
+// and leaves in every lent slice what the call's definition says; after a refusal nothing has changed, save a tally
+// that counts it.
 // A slice is a pointer and a length in elements, two parameters in C. No function requires anything of the values
 // handed in.
 ghost use mathlib.Core.Path.{_≡_};
@@ -165,7 +165,8 @@ pub extern "C" fn vedrogne_decode(
     result_out(outcome, iterations, reason)
 }
 
-// Of the tallies only the radio's five numbers are read and written; where 15 refuses them they are written as they were.
+// Of the tallies only the radio's five numbers are read and written; where 15 refuses them they are written as they
+// were.
 #[no_mangle]
 pub extern "C" fn vedrogne_decode_radio(
     radio: u32,

@@ -5,13 +5,12 @@ use mathlib.Core.List.{List}
 use native.Mathlib.Omega.{arith}
 use borrow.Author.Needs.{needs}
 use Rattle.calls.specs.declared.Answer.{Answer}
-use Rattle.calls.specs.Numbers.{refusalNumber}
 use Rattle.format.specs.TextLaws.{refusal-length}
 use Rattle.format.specs.Wrote.{Wrote}
 use Rattle.format.specs.WroteLaws.{wrote-within}
 use Rattle.tally.specs.declared.Tally.{Tally}
-use Rattle.radio_list.specs.RadioList.{refused, listed, meant, meaning}
-use Rattle.radio_list.specs.RadioListLaws.{list-countable}
+use Rattle.radio_list.specs.RadioList.{meant, meaning}
+use Rattle.radio_list.specs.RadioListLaws.{list-usable-or-full}
 use Rattle.radios_text.specs.RadiosText.{textOf, summary}
 use Rattle.radios_text.proofs.summary.Statement.{statement}
 use Rattle.radios_text.proofs.summary.Tie as tie
@@ -36,7 +35,7 @@ enum-told c = search needs
 write-requires : tie.Need-write-requires
 write-requires c κs =
     let r = c .before .before .before in (
-      list-countable (text r) (tallies r) (means r (c .before .enum-told .given .1)),
+      list-usable-or-full (text r) (tallies r) (means r (c .before .enum-told .given .1)),
       omega (arith, c .write-arg .given),
     )
 

@@ -48,8 +48,8 @@ decode-requires c κs = search needs
 
 with-tally-requires : tie.Need-with-tally-requires
 with-tally-requires c κs =
-    let known = c .before .before .before .before .before .before .before .before .before .before .before .before .before
-    .before .before in
+    let decoded = c .before .before .before .before .before .before .before .before in
+    let known = decoded .before .before .before .before .before .before .before in
     omega (arith, inside known)
 
 same-length : tie.Need-same-length
