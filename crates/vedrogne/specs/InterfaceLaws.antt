@@ -8,12 +8,11 @@ use native.Mathlib.Nat.{add-zero}
 use lib.ListN.{length, getD, set, take, drop, length-drop, take-append-drop}
 use lib.Seq.{drop-drop, take-add, getD-drop, sets-eq}
 use borrow.Author.Tests.{le-leb, lt-leb}
-use Rattle.calls.specs.LentMemory.{unlessRefused}
-use Rattle.decoder.specs.Decoder.{Ending, ending, Result, resultBy, callNumber}
+use Rattle.decoder.specs.Decoder.{Ending, ending, resultBy, callNumber}
 use Rattle.tally.specs.declared.Tally.{Tally}
 use Rattle.tally.specs.Tally.{answerBy}
 use Rattle.tally.specs.TallyLaws.{same-tally}
-use Rattle.radios.specs.Radios.{radioCount, tallyOf, radioCallNumber, talliesCounted}
+use Rattle.radios.specs.Radios.{radioCount, tallyOf}
 use Rattle.vedrogne.specs.Interface.{
   settingsLength,
   tallyLength,

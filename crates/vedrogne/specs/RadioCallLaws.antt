@@ -1,9 +1,8 @@
 -- Laws of `vedrogne_decode_radio`: it is the method `decode` of `Radios`, though it reads and writes the five numbers
 -- of one radio alone.
-use Prim.Native.Nat.{ℕ, zero, suc, _+_, _*_, _≤_, _<_}
+use Prim.Native.Nat.{ℕ, zero, suc, _+_, _*_, _≤_}
 use mathlib.Core.Path.{_≡_, refl, sym, ap, ap₂, _∙_}
 use mathlib.Core.List.{List, _++_}
-use native.Mathlib.Omega.{arith}
 use borrow.Author.Tests.{leb-true, ltb-true}
 use lib.IntN.{ℤ}
 use lib.ListN.{length, set, take, drop}
