@@ -1,5 +1,6 @@
 /*
- * Vedrogne: polar coder, channel front, belief-propagation decoder, and the texts of blocks and of their reports.
+ * Vedrogne: polar coder, channel front, belief-propagation decoder, a tally for each radio, and the texts of blocks and
+ * of their reports.
  *
  * Link with -Ltarget/staticlib -lvedrogne; `rt staticlib vedrogne` writes the archive, target/staticlib/libvedrogne.a.
  * It is for Linux on x86-64 and needs the C library alone. No function allocates memory, keeps a state between calls,
@@ -22,7 +23,8 @@
  * Nothing else is required: every value of every number, float and byte is answered.
  *
  * Every function returns 0, or the number of a refusal. After a refusal no memory has changed, save a tally that counts
- * the refusal. Where several numbers apply the lowest is returned, save where a place is named.
+ * the refusal. Where several numbers apply the lowest is returned, save where a place is named. In the table decode and
+ * front stand for every function whose name begins so.
  *
  *    number  refused because                                                   returned by
  *     1      m is outside 1..10                                                all but report

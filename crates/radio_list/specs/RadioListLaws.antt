@@ -11,7 +11,7 @@ use lib.ListN.{length, drop, set, length-drop, drop-of-length-le}
 use Rattle.calls.specs.NumberLaws.{check-passed, first-refusal-passed}
 use Rattle.tally.specs.declared.Tally.{Tally}
 use Rattle.tally.specs.Tally.{mostBlocks, consistent}
-use Rattle.tally.specs.TallyLaws.{UsableOrFull, consistent-facts, none-usable-or-full}
+use Rattle.tally.specs.TallyLaws.{UsableOrFull, consistent-facts, facts-consistent, none-usable-or-full}
 use Rattle.radios.specs.Radios.{radioCount, radioNumber}
 use Rattle.radios.specs.RadioLaws.{EveryTally, zeros-every, set-every}
 use Rattle.radios.specs.Runs.{noBlocks}
@@ -22,6 +22,7 @@ use Rattle.radio_list.specs.RadioList.{
   listNames,
   Entry,
   radioLine,
+  listedNumber,
   entryNumber,
   Checked,
   passed,
@@ -191,3 +192,7 @@ list-usable-or-full t tallies h = split (leb (length t) longestList) (literal li
         (zeros-every UsableOrFull none-usable-or-full radioCount) h
     split true malformed h = let g : _≡_ {A = ℕ} 0 1 = cc in absurd (omega arith)
     split false r h = let g : _≡_ {A = ℕ} 0 1 = cc in absurd (omega arith)
+
+-- and no such tally is refused with 15 in a list
+pub usable-or-full-listed : (t : Tally) → UsableOrFull t → listedNumber t ≡ 0
+usable-or-full-listed t u = rw (le-leb (t .blocks) mostBlocks (u .blocks-le), facts-consistent t (u .fits))

@@ -55,7 +55,7 @@ counted t (ended iteration reason) =
       iterations = t .iterations + iteration;
     }
 
--- 15 is tested before everything: the answer and the tally of a call, by the tally's number and the decoder's answer
+-- the answer and the tally of a call, by the number of the tests before the decoder, here 15, and the decoder's answer
 abbrev pub answerBy : ℕ → Result → Result
 answerBy zero r = r
 answerBy (suc number) r = refused (suc number)

@@ -14,7 +14,7 @@ use decoder::Outcome;
 use decoder::Reason;
 use settings::Settings;
 
-// A tally takes fewer blocks than this, and its own test allows so many iterations for each ending.
+// With so many blocks a tally is full and takes no more; its own test allows so many iterations for each ending.
 pub const MOST_BLOCKS: u32 = 1000000;
 
 const MOST_ITERATIONS: u64 = 200;
