@@ -1,5 +1,5 @@
-// The C interface: coder, read-out, front, decoder, a tally for each radio, and the texts of blocks for callers in other
-// languages, as include/vedrogne.h declares them.
+// The C interface: coder, read-out, front, decoder, a tally for each radio, and the texts of blocks, for callers in
+// other languages, as include/vedrogne.h declares them.
 // It sees the promises of `calls`, `polar`, `channel`, `settings`, `decoder`, `tally`, `radios`, `report_input`,
 // `report_writer` and `report_text`. It promises that each function returns its call's number, 0 or a refusal's,
 // and leaves in every lent slice what the call's definition says; after a refusal nothing has changed, save a tally
