@@ -11,9 +11,9 @@ use lib.Pow.{shl-exact}
 use lib.Ieee.{Float}
 use borrow.Author.Tests.{leb-true}
 use Rattle.calls.specs.Bounds.{largestM, largestCeiling}
-use Rattle.calls.specs.Numbers.{between}
-use Rattle.calls.specs.NumberLaws.{check-passed, and-passed, between-passed}
+use Rattle.calls.specs.NumberLaws.{and-passed}
 use Rattle.channel.specs.Front.{isUsable, allFinite, frontNumber}
+use Rattle.channel.specs.FrontLaws.{tests-passed}
 use Rattle.channel.specs.declared.Channel.{Channel}
 
 -- 1 << m
@@ -31,16 +31,13 @@ pub accepted : (m C : ℕ) (channel : Channel) (samples : List Float) (room : �
     → frontNumber m C channel samples room ≡ 0
     → Accepted m C channel samples room
 accepted m C channel samples room e =
-    let one = check-passed (between 1 largestM m) 0 _ e in
-    let two = check-passed (between 1 largestCeiling C) 1 _ (one .1) in
-    let seven = check-passed (leb (2 ^ m) (length samples) && leb (2 ^ m) room) 6 _ (two .1) in
-    let eleven = check-passed (isUsable channel) 10 _ (seven .1) in
-    let twelve = check-passed (allFinite (2 ^ m) samples) 11 0 (eleven .1) in
-    let long = and-passed (leb (2 ^ m) (length samples)) (leb (2 ^ m) room) (seven .0) in
+    let n = 2 ^ m in
+    let passed = tests-passed m C (leb n (length samples) && leb n room) (isUsable channel) (allFinite n samples) e in
+    let long = and-passed (leb n (length samples)) (leb n room) (passed .long-enough) in
     record {
-      block = between-passed 1 largestM m (one .0);
-      ceiling = between-passed 1 largestCeiling C (two .0);
-      slices = (leb-true (2 ^ m) (length samples) (long .0), leb-true (2 ^ m) room (long .1));
-      usable = subst T (sym (eleven .0)) tt;
-      finite = subst T (sym (twelve .0)) tt;
+      block = passed .block;
+      ceiling = passed .ceiling;
+      slices = (leb-true n (length samples) (long .0), leb-true n room (long .1));
+      usable = subst T (sym (passed .all-usable)) tt;
+      finite = subst T (sym (passed .all-finite)) tt;
     }

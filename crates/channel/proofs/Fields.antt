@@ -1,6 +1,6 @@
 -- The whole number of a float by its exponent field and its digits, and from its bits.
 use Prim.Native.Nat.{ℕ, zero, suc, _+_, _-_, _*_, _/_, _%_, _^_, _≤_, _<_}
-use mathlib.Core.Path.{_≡_, refl, sym, ap, ap₂, _∙_}
+use mathlib.Core.Path.{_≡_, refl, sym, ap, _∙_}
 use mathlib.Core.Bool.{Bool, true, false, not, cond}
 use native.Mathlib.Nat.{
   mul-assoc,
@@ -19,16 +19,15 @@ use native.Mathlib.Omega.{arith}
 use lib.Dec.{T, leb, eqb, lit≤, lit<}
 use lib.Pow.{pow-add, pow-pos, pow-mono, pow-lt, shl-lt, shl-exact}
 use lib.IntN.{pos}
-use lib.Ieee.{Float, nan, inf, fin, binary32, up, down, fits, isNan, odd, ofFields, ofBits, toBits}
-use lib.Ieee.Exact.{HasValue, odd-sign}
-use lib.Ieee.Fits.{down-pos}
+use lib.Ieee.{Float, nan, inf, binary32, fits, isNan, odd, ofFields, ofBits, toBits}
+use lib.Ieee.Exact.{odd-sign}
 use lib.Ieee.Bits.{ofBits-toBits}
 use borrow.Author.Tests.{le-leb, lt-leb, eqb-true}
 use Rattle.calls.specs.Bounds.{largestCeiling}
 use Rattle.calls.specs.Signs.{flipped}
 use Rattle.channel.specs.Front.{nearest, roundedSize, quantised}
 use Rattle.channel.specs.Private.{fieldUnits}
-use Rattle.channel.specs.FrontLaws.{reaches, rounded-same}
+use Rattle.channel.specs.FrontLaws.{reaches, rounded-same, quantised-of}
 
 -- ---- below a half: d stands for the unit's 2 ^ 149 and h for its half, which are too long for `omega` as numerals
 rounded-below : (C n d h : ℕ) → 1 ≤ C → d ≡ 2 * h → n < h → roundedSize C n d ≡ 0
@@ -112,14 +111,6 @@ module _ (C field digits : ℕ) (h : 126 ≤ field) (l : field < 138) where
       rw (one-shifted, add-one (150 - field), pow-succ' 2 (150 - field)) (sym (by-quotient false (lt-leb C _ k)))
 
 -- ---- from the bits
-quantised-of : (C : ℕ) (x : Float) (s : Bool) (a c : ℕ) → 0 < c → HasValue x s a c
-    → quantised C x ≡ flipped s (pos (roundedSize C a c))
-unfolding quantised
-quantised-of C nan s a c h v = absurd v
-quantised-of C (inf t) s a c h v = absurd v
-quantised-of C (fin t m e) s a c h v =
-    ap₂ (λ (t : Bool) (n : ℕ). flipped t (pos n)) (v .0) (rounded-same C (m * up e) (down e) a c (down-pos e) h (v .1))
-
 of-fields : (C : ℕ) (s : Bool) (field digits : ℕ) → C ≤ largestCeiling
     → T (not (isNan (ofFields binary32 s field digits)))
     → quantised C (ofFields binary32 s field digits)

@@ -25,7 +25,7 @@ one-not-finite n i samples h e = by-test (allFinite n samples) (sample-finite n 
     by-test true f = absurd (subst T e (f tt))
 
 -- ---- no NaN
-either-number : (b : Bool) (x y : Float) → T (not (isNan x)) → T (not (isNan y)) → T (not (isNan (cond b x y)))
+pub either-number : (b : Bool) (x y : Float) → T (not (isNan x)) → T (not (isNan y)) → T (not (isNan (cond b x y)))
 either-number true x y p q = p
 either-number false x y p q = q
 
@@ -40,7 +40,7 @@ units-number f s q k =
     either-number (ltb (q * 2 ^ k) (2 ^ (low f + suc (emax f)))) (odd (suc (prec f)) s q k (low f)) (inf s)
     (odd-number (suc (prec f)) s q k (low f)) tt
 
-round-number : (f : Format) (s : Bool) (n d : ℕ) → T (not (isNan (round f s n d)))
+pub round-number : (f : Format) (s : Bool) (n d : ℕ) → T (not (isNan (round f s n d)))
 unfolding round
 round-number f s n d = units-number f s _ _
 

@@ -74,13 +74,19 @@ isUsable Erasing = true
 abbrev pub allFinite : ℕ → List Float → Bool
 allFinite n samples = every n (λ i. isFinite (getD samples i nan))
 
-abbrev pub frontNumber : ℕ → ℕ → Channel → List Float → ℕ → ℕ
-frontNumber m C channel samples room =
+-- the tests of a front in their order, over what is tested at 7 (are the slices long enough), at 11 (factor or weight)
+-- and at 12 (the samples)
+abbrev pub frontTests : ℕ → ℕ → Bool → Bool → Bool → ℕ
+frontTests m C long usable finite =
     check (between 1 largestM m) 1
     (check (between 1 largestCeiling C) 2
-    (check (leb (2 ^ m) (length samples) && leb (2 ^ m) room) 7
-    (check (isUsable channel) 11
-    (check (allFinite (2 ^ m) samples) 12 0))))
+    (check long 7
+    (check usable 11
+    (check finite 12 0))))
+
+abbrev pub frontNumber : ℕ → ℕ → Channel → List Float → ℕ → ℕ
+frontNumber m C channel samples room =
+    frontTests m C (leb (2 ^ m) (length samples) && leb (2 ^ m) room) (isUsable channel) (allFinite (2 ^ m) samples)
 
 abbrev pub frontLlrs : ℕ → ℕ → Channel → List Float → List ℤ → List ℤ
 frontLlrs m C channel samples old =

@@ -1,6 +1,6 @@
--- Laws of the front's definitions, each for every float and every channel: `nearest` is the nearest whole number; an
--- LLR is no larger than the ceiling and odd in its sample; samples flipped at some places give the same number and the
--- LLRs flipped at those places.
+-- Laws of the front's definitions, each for every float and every channel: what a front that refuses nothing has
+-- tested; `nearest` is the nearest whole number; an LLR is no larger than the ceiling and odd in its sample; samples
+-- flipped at some places give the same number and the LLRs flipped at those places.
 use Prim.Native.Nat.{ℕ, zero, suc, _+_, _*_, _/_, _^_, _≤_, _<_, zero-le}
 use mathlib.Core.Path.{_≡_, refl, sym, ap, ap₂, _∙_}
 use mathlib.Core.Bool.{Bool, true, false, not, cond}
@@ -23,9 +23,13 @@ use lib.IntN.{ℤ, pos, negsuc, negℤ, negℤ-negℤ, natAbs}
 use lib.Signed.{mag}
 use lib.ListN.{length, getD}
 use lib.Ieee.{Float, nan, inf, fin, Format, binary32, prec, emax, low, up, down, unlike, odd, units, round, neg, mul}
+use lib.Ieee.Exact.{HasValue}
 use lib.Ieee.Fits.{down-pos}
 use lib.Ieee.Nearest.{div-same}
 use borrow.Author.Tests.{leb-true, leb-false, le-leb, lt-leb}
+use Rattle.calls.specs.Bounds.{largestM, largestCeiling}
+use Rattle.calls.specs.Numbers.{between}
+use Rattle.calls.specs.NumberLaws.{check-passed, between-passed}
 use Rattle.calls.specs.LentMemory.{overwrite, unlessRefused}
 use Rattle.calls.specs.Signs.{flipped}
 use Rattle.calls.specs.SignLaws.{size-flipped, flipped-xor}
@@ -40,12 +44,37 @@ use Rattle.channel.specs.Front.{
   llrOf,
   isFinite,
   allFinite,
+  frontTests,
   frontNumber,
   frontLlrs,
 }
 use Rattle.channel.specs.FlippedSamples.{flippedSample, flippedSamples}
 use Rattle.channel.specs.declared.Channel.{Channel}
 use Rattle.channel.specs.declared.Channel.the-variants.{Gaussian, Flipping, Erasing}
+
+-- ---- what a front that refuses nothing has tested
+
+pub record TestsPassed (m C : ℕ) (long usable finite : Bool) : Type 0 where
+  pub block : (1 ≤ m) × (m ≤ largestM)
+  pub ceiling : (1 ≤ C) × (C ≤ largestCeiling)
+  pub long-enough : long ≡ true
+  pub all-usable : usable ≡ true
+  pub all-finite : finite ≡ true
+
+pub tests-passed : (m C : ℕ) (long usable finite : Bool) → frontTests m C long usable finite ≡ 0
+    → TestsPassed m C long usable finite
+tests-passed m C long usable finite e =
+    let one = check-passed (between 1 largestM m) 0 _ e in
+    let two = check-passed (between 1 largestCeiling C) 1 _ (one .1) in
+    let seven = check-passed long 6 _ (two .1) in
+    let eleven = check-passed usable 10 _ (seven .1) in
+    record {
+      block = between-passed 1 largestM m (one .0);
+      ceiling = between-passed 1 largestCeiling C (two .0);
+      long-enough = seven .0;
+      all-usable = eleven .0;
+      all-finite = check-passed finite 11 0 (eleven .1) .0;
+    }
 
 -- ---- the whole number of a size
 
@@ -85,6 +114,15 @@ rounded-same C a b c d p q e =
 pub rounded-zero : (C : ℕ) → roundedSize C 0 1 ≡ 0
 rounded-zero zero = refl
 rounded-zero (suc C) = simp (lt-leb (suc C * 1) 0 (omega arith))
+
+-- the whole number of a float by its sign and by its size as any fraction
+pub quantised-of : (C : ℕ) (x : Float) (s : Bool) (a c : ℕ) → 0 < c → HasValue x s a c
+    → quantised C x ≡ flipped s (pos (roundedSize C a c))
+unfolding quantised
+quantised-of C nan s a c h v = absurd v
+quantised-of C (inf t) s a c h v = absurd v
+quantised-of C (fin t m e) s a c h v =
+    ap₂ (λ (t : Bool) (n : ℕ). flipped t (pos n)) (v .0) (rounded-same C (m * up e) (down e) a c (down-pos e) h (v .1))
 
 -- ---- no LLR is larger than the ceiling
 
@@ -133,7 +171,7 @@ units-neg f s q k =
     cond-neg (ltb (q * 2 ^ k) (2 ^ (low f + suc (emax f)))) (odd (suc (prec f)) s q k (low f)) (inf s) _ (inf (not s))
     (odd-neg (suc (prec f)) s q k (low f)) refl
 
-round-neg : (f : Format) (s : Bool) (n d : ℕ) → round f (not s) n d ≡ neg (round f s n d)
+pub round-neg : (f : Format) (s : Bool) (n d : ℕ) → round f (not s) n d ≡ neg (round f s n d)
 unfolding round
 round-neg f s n d = units-neg f s _ _
 
@@ -202,14 +240,14 @@ nan-flipped true = refl
 nan-flipped false = refl
 
 -- (behind the list's end both sides read a NaN)
-sample-flipped : (n : ℕ) (bit : ℕ → Bool) (samples : List Float) (i : ℕ) → i < n
+pub sample-flipped : (n : ℕ) (bit : ℕ → Bool) (samples : List Float) (i : ℕ) → i < n
     → getD (flippedSamples n bit samples) i nan ≡ flippedSample (bit i) (getD samples i nan)
 sample-flipped zero bit samples i h = absurd (not-suc-le-zero h)
 sample-flipped (suc n) bit [] i h = nan-flipped (bit i)
 sample-flipped (suc n) bit (x ∷ samples) zero h = refl
 sample-flipped (suc n) bit (x ∷ samples) (suc i) h = sample-flipped n (λ j. bit (suc j)) samples i (le-of-suc-le-suc h)
 
-all-flipped : (n k : ℕ) (bit : ℕ → Bool) (samples : List Float) → k ≤ n
+pub all-flipped : (n k : ℕ) (bit : ℕ → Bool) (samples : List Float) → k ≤ n
     → allFinite k (flippedSamples n bit samples) ≡ allFinite k samples
 all-flipped n k bit samples h =
     every-same k _ _

@@ -43,7 +43,7 @@ fn finite(x: f32) -> bool
 }
 
 // Finite and above zero, as a factor or a weight has to be.
-fn above_zero(x: f32) -> bool
+pub fn above_zero(x: f32) -> bool
     ensures { λ r. ⌜ r ≡ isAboveZero x ⌝ }
 {
     if 0.0 < x {
@@ -64,7 +64,7 @@ fn usable(channel: Channel) -> bool
 }
 
 // Whether the first n samples are finite.
-fn all_finite(samples: &[f32], n: usize) -> bool
+pub fn all_finite(samples: &[f32], n: usize) -> bool
     requires { ⌜ n ≤ length (now samples) ⌝ }
     ensures { λ r. ⌜ r ≡ allFinite n (now (samples .entry)) ⌝ }
 {
@@ -100,7 +100,7 @@ fn rounded_size(field: u32, digits: u32, ceiling: u32) -> u32
 }
 
 // The exact value, read from the bits and brought to a whole number by its size; the sign is given back afterwards.
-fn quantise(value: f32, ceiling: u32) -> i16
+pub fn quantise(value: f32, ceiling: u32) -> i16
     requires { ⌜ T (not (isNan value)) ⌝ }
     requires { ⌜ (1 ≤ ceiling) × (ceiling ≤ largestCeiling) ⌝ }
     ensures { λ r. ⌜ r ≡ quantised ceiling value ⌝ }
