@@ -1,0 +1,4 @@
+pub mod FrontTwo
+pub mod RelatedCalls
+pub mod SumLaws
+pub mod FrontTwoLaws
