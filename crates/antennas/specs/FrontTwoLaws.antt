@@ -297,16 +297,22 @@ module _ (m C : ℕ) (receiver : Receiver) (samples : Branches) (usable : isAbov
   second-zeros-number room =
       simp (le-leb (2 ^ m) (length (samples .second)) zeros-long, usable, zeros-finite, and-true)
 
+  ceiling-passed : (room : ℕ) → frontNumber m C (Gaussian (receiver .first)) (samples .first) room ≡ 0
+      → C ≤ largestCeiling
+  ceiling-passed room ok =
+      tests-passed m C (leb (2 ^ m) (length (samples .first)) && leb (2 ^ m) room) (isAboveZero (receiver .first))
+      (allFinite (2 ^ m) (samples .first)) ok .ceiling .1
+
   pub second-zeros : (old : List ℤ)
       → frontTwoLlrs m C receiver samples old ≡ frontLlrs m C (Gaussian (receiver .first)) (samples .first) old
   second-zeros old =
-      let number = frontNumber m C (Gaussian (receiver .first)) (samples .first) (length old) in
+      let channel = Gaussian (receiver .first) in
       ap (λ (n : ℕ). unlessRefused n (overwrite (2 ^ m) (llrAt C receiver samples) old) old)
       (second-zeros-number (length old))
-      ∙ unless-refused-same number _ _ old (λ ok.
-      overwrite-same (2 ^ m) (llrAt C receiver samples) _ old (λ i h k.
-      llr-with-zero C receiver (getD (samples .first) i nan) (getD (samples .second) i nan)
-      (tests-passed m C _ _ _ ok .ceiling .1) usable (zero-at i h)))
+      ∙ unless-refused-same (frontNumber m C channel (samples .first) (length old)) _ _ old (λ ok.
+      overwrite-same (2 ^ m) (llrAt C receiver samples) (λ i. llrOf C channel (getD (samples .first) i nan)) old
+      (λ i h k. llr-with-zero C receiver (getD (samples .first) i nan) (getD (samples .second) i nan)
+      (ceiling-passed (length old) ok) usable (zero-at i h)))
 
 -- ---- both samples flipped at some places
 
@@ -337,4 +343,7 @@ llr-at-flipped n C receiver bit samples i h =
 pub front-two-room : (m C : ℕ) (receiver : Receiver) (samples : Branches) (room : ℕ)
     → frontTwoNumber m C receiver samples room ≡ 0 → 2 ^ m ≤ room
 front-two-room m C receiver samples room ok =
-    leb-true (2 ^ m) room (and-passed _ (leb (2 ^ m) room) (tests-passed m C _ _ _ ok .long-enough) .1)
+    let n = 2 ^ m in
+    let both = leb n (length (samples .first)) && leb n (length (samples .second)) in
+    let passed = tests-passed m C (both && leb n room) (areUsable receiver) (areFinite n samples) ok in
+    leb-true n room (and-passed both (leb n room) (passed .long-enough) .1)

@@ -6,9 +6,11 @@ use mathlib.Core.List.{List, [], _∷_, _++_}
 use lib.Dec.{leb}
 use lib.IntN.{ℤ}
 use lib.ListN.{length, getD, drop}
+use lib.Ieee.{Float}
 use Rattle.calls.specs.Numbers.{check, firstRefusal}
 use Rattle.calls.specs.LentMemory.{unlessRefused}
 use Rattle.polar.specs.declared.Code.{Code}
+use Rattle.antennas.specs.declared.Receiver.{Receiver}
 use Rattle.settings.specs.declared.Settings.{Settings}
 use Rattle.settings.specs.Slices.{Slices}
 use Rattle.decoder.specs.Decoder.{Result, refused, ended, decodeResult, decodeSlices}
@@ -18,6 +20,9 @@ use Rattle.radios.specs.Radios.{radioCount, radioCallNumber, talliesCounted}
 
 abbrev pub codeIn : ℕ → Code
 codeIn m = record { m = m }
+
+abbrev pub receiverIn : Float → Float → Receiver
+receiverIn first second = record { first = first; second = second }
 
 -- ---- lists of numbers: how many elements of a list of settings, of one tally and of all tallies are read or written
 

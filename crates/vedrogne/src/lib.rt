@@ -1,9 +1,9 @@
-// The C interface: coder, read-out, front, decoder, a tally for each radio, and the texts of blocks, for callers in
+// The C interface: coder, read-out, fronts, decoder, a tally for each radio, and the texts of blocks, for callers in
 // other languages, as include/vedrogne.h declares them.
-// It sees the promises of `calls`, `polar`, `channel`, `settings`, `decoder`, `tally`, `radios`, `report_input`,
-// `report_writer` and `report_text`. It promises that each function returns its call's number, 0 or a refusal's,
-// and leaves in every lent slice what the call's definition says; after a refusal nothing has changed, save a tally
-// that counts it.
+// It sees the promises of `calls`, `polar`, `channel`, `antennas`, `settings`, `decoder`, `tally`, `radios`,
+// `report_input`, `report_writer` and `report_text`. It promises that each function returns its call's number, 0 or a
+// refusal's, and leaves in every lent slice what the call's definition says; after a refusal nothing has changed, save
+// a tally that counts it.
 // A slice is a pointer and a length in elements, two parameters in C. No function requires anything of the values
 // handed in.
 ghost use mathlib.Core.Path.{_≡_};
@@ -12,6 +12,7 @@ ghost use Prim.Native.Nat.{_+_, _≤_};
 ghost use lib.ListN.{length, take, drop};
 ghost use Rattle.polar.specs.Code.{encodeNumber, encodeBlock, readOutNumber, readOutMessage};
 ghost use Rattle.channel.specs.Front.{frontNumber, frontLlrs};
+ghost use Rattle.antennas.specs.FrontTwo.{branches, frontTwoNumber, frontTwoLlrs};
 ghost use Rattle.settings.specs.Settings.{settingsList};
 ghost use Rattle.settings.specs.Slices.{slices};
 ghost use Rattle.decoder.specs.Decoder.{resultOf};
@@ -23,6 +24,7 @@ ghost use Rattle.vedrogne.specs.Interface.{
   settingsLength,
   tallyLength,
   codeIn,
+  receiverIn,
   settingsIn,
   tallyIn,
   tallyList,
@@ -36,6 +38,7 @@ ghost use Rattle.vedrogne.specs.Interface.{
 };
 ghost use Rattle.vedrogne.specs.TextCalls.{readMeaning, ReadCall};
 ghost use Rattle.vedrogne.specs.TextCalls.{writeCallNumber, reportCallNumber, TextCall};
+use antennas::Receiver;
 use calls::Answer;
 use calls::Refusal;
 use channel::Channel;
@@ -281,6 +284,28 @@ pub extern "C" fn vedrogne_front_erasing(
     ensures { λ _. ⌜ now (llr .exit) ≡ frontLlrs m ceiling Channel.Erasing (now (samples .entry)) (now (llr .entry)) ⌝ }
 {
     calls::number(channel::front(m, ceiling, Channel::Erasing, samples, llr))
+}
+
+#[no_mangle]
+pub extern "C" fn vedrogne_front_two(
+    m: u32,
+    ceiling: u32,
+    first_factor: f32,
+    second_factor: f32,
+    first: &[f32],
+    second: &[f32],
+    llr: &mut [i16],
+) -> u32
+    ensures { λ r. ⌜ r ≡ frontTwoNumber m ceiling (receiverIn «first_factor» «second_factor»)
+        (branches (now (first .entry)) (now (second .entry))) (length (now (llr .entry))) ⌝ }
+    ensures { λ _. ⌜ now (llr .exit) ≡ frontTwoLlrs m ceiling (receiverIn «first_factor» «second_factor»)
+        (branches (now (first .entry)) (now (second .entry))) (now (llr .entry)) ⌝ }
+{
+    let receiver = Receiver {
+        first: first_factor,
+        second: second_factor,
+    };
+    calls::number(antennas::front_two(m, ceiling, receiver, first, second, llr))
 }
 
 #[no_mangle]
