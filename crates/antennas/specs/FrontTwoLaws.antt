@@ -36,18 +36,7 @@ use Rattle.channel.specs.Front.{
 use Rattle.channel.specs.FlippedSamples.{flippedSample, flippedSamples}
 use Rattle.channel.specs.FrontLaws.{quantised-bound, mul-neg, sample-flipped, all-flipped, tests-passed}
 use Rattle.antennas.specs.declared.Receiver.{Receiver}
-use Rattle.antennas.specs.FrontTwo.{
-  largestProduct,
-  cutTo,
-  llrOfTwo,
-  Branches,
-  branches,
-  areUsable,
-  areFinite,
-  llrAt,
-  frontTwoNumber,
-  frontTwoLlrs,
-}
+use Rattle.antennas.specs.FrontTwo.{largestProduct, cutTo, llrOfTwo, Branches, areUsable, areFinite, llrAt, frontTwoNumber, frontTwoLlrs}
 use Rattle.antennas.specs.RelatedCalls.{flippedBranches, exchanged, exchangedBranches, allZero}
 use Rattle.antennas.specs.SumLaws.{add-exchanged, add-odd, round-zero, add-with-zero}
 
@@ -324,12 +313,10 @@ llr-of-two-flipped C receiver false x y = refl
 -- the number of the answer stays
 pub front-two-number-flipped : (m C : ℕ) (receiver : Receiver) (bit : ℕ → Bool) (samples : Branches) (room : ℕ)
     → frontTwoNumber m C receiver (flippedBranches (2 ^ m) bit samples) room ≡ frontTwoNumber m C receiver samples room
-front-two-number-flipped m C receiver bit samples room =
-    simp (
-      length-overwrite,
-      all-flipped (2 ^ m) (2 ^ m) bit (samples .first) (le-refl (2 ^ m)),
-      all-flipped (2 ^ m) (2 ^ m) bit (samples .second) (le-refl (2 ^ m)),
-    )
+front-two-number-flipped m C receiver bit samples room = simp (length-overwrite, finite-stays)
+  where
+    finite-stays : (bit : ℕ → Bool) (l : List Float) → allFinite (2 ^ m) (flippedSamples (2 ^ m) bit l) ≡ allFinite (2 ^ m) l
+    finite-stays bit l = all-flipped (2 ^ m) (2 ^ m) bit l (le-refl (2 ^ m))
 
 -- each LLR is flipped where its samples are
 pub llr-at-flipped : (n C : ℕ) (receiver : Receiver) (bit : ℕ → Bool) (samples : Branches) (i : ℕ) → i < n

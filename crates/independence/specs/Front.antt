@@ -1,5 +1,6 @@
 -- A front, as far as the message's part in the outcome goes: samples of some kind become LLRs in a lent slice, or are
--- refused. Document 01's takes one list of floats (`channelFront`). Definitions only.
+-- refused. Document 01's takes one list of floats (`channelFront`), that of 2026-06 two (`antennasFront`). Definitions
+-- only.
 use Prim.Native.Nat.{ℕ, _^_, _<_}
 use mathlib.Core.Path.{_≡_}
 use mathlib.Core.Bool.{Bool}
@@ -11,6 +12,9 @@ use Rattle.calls.specs.Signs.{flipped}
 use Rattle.channel.specs.declared.Channel.{Channel}
 use Rattle.channel.specs.FlippedSamples.{flippedSamples}
 use Rattle.channel.specs.Front.{frontNumber, frontLlrs}
+use Rattle.antennas.specs.declared.Receiver.{Receiver}
+use Rattle.antennas.specs.FrontTwo.{Branches, frontTwoNumber, frontTwoLlrs}
+use Rattle.antennas.specs.RelatedCalls.{flippedBranches}
 use Rattle.settings.specs.declared.Settings.{Settings}
 
 pub record Front (Samples : Type 0) : Type 0 where
@@ -38,4 +42,12 @@ channelFront s channel = record {
   number = frontNumber (s .m) (s .ceiling) channel;
   llrs = frontLlrs (s .m) (s .ceiling) channel;
   flip = flippedSamples (2 ^ s .m);
+}
+
+-- the front for two antennas: both samples of a place are negated, or neither
+abbrev pub antennasFront : Settings → Receiver → Front Branches
+antennasFront s receiver = record {
+  number = frontTwoNumber (s .m) (s .ceiling) receiver;
+  llrs = frontTwoLlrs (s .m) (s .ceiling) receiver;
+  flip = flippedBranches (2 ^ s .m);
 }

@@ -1,6 +1,6 @@
 -- Document 01, "Message and outcome", whole: from samples to marks, how well a block is decoded does not depend on the
--- message sent. First for any front that is odd in its samples, then for document 01's. And 2026-02: a frozen position
--- is right in every run.
+-- message sent. First for any front that is odd in its samples, then for document 01's and, 2026-06, for two antennas.
+-- And 2026-02: a frozen position is right in every run.
 use Prim.Native.Nat.{ℕ, _^_, _<_}
 use mathlib.Core.Path.{_≡_, sym, ap, ap₂, _∙_}
 use mathlib.Core.Bool.{false}
@@ -10,9 +10,12 @@ use lib.Ieee.{Float}
 use Rattle.polar.specs.Code.{uBit, encodeNumber}
 use Rattle.polar.specs.Mask.{isInformation}
 use Rattle.channel.specs.declared.Channel.{Channel}
+use Rattle.antennas.specs.declared.Receiver.{Receiver}
+use Rattle.antennas.specs.FrontTwo.{Branches}
 use Rattle.settings.specs.declared.Settings.{Settings}
 use Rattle.decoder.specs.ResultLaws.{frozen-mark-written}
-use Rattle.independence.specs.Front.{Front, OddFront, channelFront}
+use Rattle.independence.specs.Front.{Front, OddFront, channelFront, antennasFront}
+use Rattle.independence.specs.OddFronts.{channel-odd, antennas-odd}
 use Rattle.independence.specs.Verdict.{right, verdict}
 use Rattle.independence.specs.Alike.{
   RunSlices,
@@ -30,7 +33,6 @@ use Rattle.independence.specs.Runs.{
   Calls,
   frozen-zero,
   sent-coded,
-  channel-odd,
   answer-same,
   soft-same,
   codedSoft-same,
@@ -79,6 +81,14 @@ pub message-independence : (s : Settings) (channel : Channel) (mask message bloc
     → Alike (channelFront s channel) s mask message block samples first second
 message-independence s channel mask message block samples first second =
     front-independence (channelFront s channel) s mask message block samples first second (channel-odd s channel)
+
+-- two antennas, accepted or not, with both samples negated where the block sent has a 1
+pub antennas-independence : (s : Settings) (receiver : Receiver) (mask message block : List ℕ) (samples : Branches)
+    (first second : RunSlices)
+    → encodeNumber (record { m = s .m }) mask message (length block) ≡ 0 → SameLengths first second
+    → Alike (antennasFront s receiver) s mask message block samples first second
+antennas-independence s receiver mask message block samples first second =
+    front-independence (antennasFront s receiver) s mask message block samples first second (antennas-odd s receiver)
 
 -- in either run, and in any other: a frozen position is never tied and never wrong, whatever the message
 pub frozen-right : {Samples : Type 0} (front : Front Samples) (s : Settings) (mask message : List ℕ) (samples : Samples)

@@ -1,31 +1,20 @@
--- From samples and lent slices to the two runs of Flips: the block sent, the LLRs of the front, and what two calls of
--- the decoder with such LLRs answer and leave.
-use Prim.Native.Nat.{ℕ, _^_, _≤_, _<_}
+-- From lent slices to the two runs of Flips: the block sent, and what two calls of the decoder, the second with its LLRs
+-- flipped by that block, answer and leave.
+use Prim.Native.Nat.{ℕ, _^_, _<_}
 use mathlib.Core.Path.{_≡_, sym, ap, _∙_}
-use mathlib.Core.Bool.{Bool, false, _&&_}
+use mathlib.Core.Bool.{Bool, false}
 use mathlib.Core.List.{List}
-use native.Mathlib.Omega.{arith}
-use lib.Dec.{leb}
 use lib.IntN.{ℤ, pos}
 use lib.ListN.{length, getD}
-use lib.Ieee.{Float, nan}
-use borrow.Author.Tests.{leb-true}
 use Rattle.calls.specs.Bits.{byteOf, bitOf}
 use Rattle.calls.specs.BitLaws.{bit-of-byte}
-use Rattle.calls.specs.Bounds.{largestM, largestCeiling}
-use Rattle.calls.specs.Numbers.{between}
-use Rattle.calls.specs.LentMemoryLaws.{length-after, new-at}
-use Rattle.calls.specs.NumberLaws.{check-passed, and-passed}
+use Rattle.calls.specs.LentMemoryLaws.{new-at}
 use Rattle.calls.specs.Signs.{flipped}
 use Rattle.polar.specs.declared.Code.{Code}
 use Rattle.polar.specs.Code.{uBit, informationCount, coded, encodeNumber, encodeBlock}
 use Rattle.polar.specs.CodeLaws.{encode-accepted}
 use Rattle.polar.specs.Mask.{isInformation}
 use Rattle.polar.specs.MaskLaws.{kind-frozen, frozen-bit-zero}
-use Rattle.channel.specs.declared.Channel.{Channel}
-use Rattle.channel.specs.Front.{llrOf, frontNumber}
-use Rattle.channel.specs.FlippedSamples.{flippedSamples}
-use Rattle.channel.specs.FrontLaws.{llr-at-flipped, front-number-flipped}
 use Rattle.criteria.specs.Marks.{markOf}
 use Rattle.settings.specs.declared.Settings.{Settings}
 use Rattle.settings.specs.Settings.{decodeNumber}
@@ -35,7 +24,6 @@ use Rattle.decoder.specs.Decoder.{ending, callNumber, decodeResult, decodeSlice
 use Rattle.decoder.specs.ResultLaws.{result-same, soft-written, mark-written, codedSoft-written, codedMark-written}
 use Rattle.independence.specs.Verdict.{flippedMark}
 use Rattle.independence.specs.Flips.{Runs}
-use Rattle.independence.specs.Front.{OddFront, channelFront}
 use Rattle.independence.specs.Outcome.{mark-flipped, ending-same, final-soft, final-codedSoft}
 
 -- ---- the coder: u is 0 where the mask is not, and the block sent holds the coded bits
@@ -54,39 +42,6 @@ sent-coded code mask message block ok i h =
     (new-at (encodeNumber code mask message (length block)) (2 ^ code .m)
     (λ i. byteOf (coded (code .m) (uBit mask message) i)) block i 0 ok h room)
     ∙ bit-of-byte (coded (code .m) (uBit mask message) i)
-
--- ---- the front: an accepted call has room for the LLRs, and is odd in its samples
-
-front-room : (m C : ℕ) (channel : Channel) (samples : List Float) (room : ℕ) → frontNumber m C channel samples room ≡ 0
-    → 2 ^ m ≤ room
-front-room m C channel samples room ok =
-    let one = check-passed (between 1 largestM m) 0 _ ok in
-    let two = check-passed (between 1 largestCeiling C) 1 _ (one .1) in
-    let seven = check-passed (leb (2 ^ m) (length samples) && leb (2 ^ m) room) 6 _ (two .1) in
-    leb-true (2 ^ m) room (and-passed (leb (2 ^ m) (length samples)) (leb (2 ^ m) room) (seven .0) .1)
-
-pub channel-odd : (s : Settings) (channel : Channel) → OddFront (2 ^ s .m) (channelFront s channel)
-channel-odd s channel =
-    let m = s .m in
-    let C = s .ceiling in
-    record {
-      number-same = λ bit samples room. front-number-flipped m C channel bit samples room;
-      length-same = λ samples old. length-after (frontNumber m C channel samples (length old)) (2 ^ m) _ old;
-      llrs-flip = λ bit samples old old′ long ok i h.
-          let flipped-samples = flippedSamples (2 ^ m) bit samples in
-          let room = front-room m C channel samples (length old) ok in
-          let same : frontNumber m C channel flipped-samples (length old′)
-          ≡ frontNumber m C channel samples (length old)
-          = front-number-flipped m C channel bit samples (length old′)
-          ∙ ap (frontNumber m C channel samples) (sym long) in
-          new-at (frontNumber m C channel flipped-samples (length old′)) (2 ^ m)
-          (λ i. llrOf C channel (getD flipped-samples i nan)) old′ i (pos 0)
-          (same ∙ ok) h (omega arith)
-          ∙ llr-at-flipped (2 ^ m) C channel bit samples i h
-          ∙ ap (flipped (bit i))
-          (sym (new-at (frontNumber m C channel samples (length old)) (2 ^ m)
-          (λ i. llrOf C channel (getD samples i nan)) old i (pos 0) ok h room));
-    }
 
 -- ---- the decoder: two calls, the second with its LLRs flipped by the block sent, with slices of the same lengths
 
