@@ -7,8 +7,9 @@ use lib.Ieee.Fits.{and-l, and-r}
 use Rattle.channel.specs.Front.{isFinite, isAboveZero}
 use Rattle.channel.proofs.Samples.{either-number, round-number, product-number}
 use Rattle.antennas.specs.declared.Receiver.{Receiver}
-use Rattle.antennas.specs.FrontTwo.{largestProduct, cutTo, areUsable}
-use Rattle.antennas.specs.FrontTwoLaws.{cutSize, cut-is}
+use Rattle.antennas.specs.FrontTwo.{areUsable}
+use Rattle.antennas.specs.CutLaws.{cutSize, cut-is}
+use Rattle.antennas.specs.FrontTwoLaws.{product}
 
 either-finite : (b : Bool) (x y : Float) → T (isFinite x) → T (isFinite y) → T (isFinite (cond b x y))
 either-finite true x y p q = p
@@ -37,10 +38,6 @@ add-number (inf s) y h k = absurd h
 add-number (fin s m e) nan h k = absurd k
 add-number (fin s m e) (inf t) h k = absurd k
 add-number (fin s m e) (fin t n d) h k = sum-number s (m * up e * down d) t (n * up d * down e) (down e * down d)
-
--- a branch's product, cut
-abbrev pub product : Float → Float → Float
-product x factor = cutTo largestProduct (mul binary32 x factor)
 
 product-finite : (x factor : Float) → T (isFinite x) → T (isAboveZero factor) → T (isFinite (product x factor))
 product-finite x factor h k = rw (cut-is (mul binary32 x factor)) (size-finite _ (product-number x factor h k))

@@ -1,4 +1,4 @@
--- Request 2026-06, second antenna: the samples of two branches, with a factor for each, to whole LLRs. Definitions only.
+-- Request 2026-06, second antenna: the samples of two branches, each with its factor, to whole LLRs. Definitions only.
 use Prim.Native.Nat.{ℕ, _^_}
 use mathlib.Core.Bool.{Bool, false, _&&_, cond}
 use mathlib.Core.List.{List}

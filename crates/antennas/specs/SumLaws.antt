@@ -228,5 +228,5 @@ add-with-zero C (fin t m e) s h =
     ∙ ap (λ (n : ℕ). quantised C (sum binary32 t (m * up e) s n (down e * 1))) (zero-mul (down e))
     ∙ ap (λ (n : ℕ). quantised C (sum binary32 t (m * up e) s 0 n)) (mul-one (down e))
     ∙ sum-zero C (m * up e) (down e) (down-pos e)
-    (λ u. quantised-of C (round binary32 u (m * up e) (down e)) u (m * up e) (down e) (down-pos e) (own-value t u m e h))
-    t s
+    (λ u.
+    quantised-of C (round binary32 u (m * up e) (down e)) u (m * up e) (down e) (down-pos e) (own-value t u m e h)) t s

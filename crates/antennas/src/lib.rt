@@ -78,7 +78,8 @@ fn fill(ceiling: u32, receiver: Receiver, n: usize, first: &[f32], second: &[f32
     requires { ⌜ (n ≤ length (now first)) × (n ≤ length (now second)) × (n ≤ length (now llr)) ⌝ }
     requires { ⌜ T (allFinite n (now first)) × T (allFinite n (now second)) ⌝ }
     ensures { λ _. ⌜ now (llr .exit)
-        ≡ overwrite n (llrAt ceiling receiver (branches (now (first .entry)) (now (second .entry)))) (now (llr .entry)) ⌝ }
+        ≡ overwrite n (llrAt ceiling receiver (branches (now (first .entry)) (now (second .entry))))
+        (now (llr .entry)) ⌝ }
 {
     let mut i = 0;
     while i < n {

@@ -1,5 +1,5 @@
--- From lent slices to the two runs of Flips: the block sent, and what two calls of the decoder, the second with its LLRs
--- flipped by that block, answer and leave.
+-- From lent slices to the two runs of Flips: the block sent, and what two calls of the decoder, the second with its
+-- LLRs flipped by that block, answer and leave.
 use Prim.Native.Nat.{ℕ, _^_, _<_}
 use mathlib.Core.Path.{_≡_, sym, ap, _∙_}
 use mathlib.Core.Bool.{Bool, false}

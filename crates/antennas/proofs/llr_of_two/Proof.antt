@@ -3,7 +3,8 @@ use lib.Ieee.{binary32, add}
 use mir.Facts.{toZ-ofZ}
 use borrow.Author.Needs.{needs}
 use Rattle.channel.specs.Front.{quantised}
-use Rattle.antennas.proofs.Sums.{product, sum-of-products}
+use Rattle.antennas.specs.FrontTwoLaws.{product}
+use Rattle.antennas.proofs.Sums.{sum-of-products}
 use Rattle.antennas.proofs.llr_of_two.Statement.{statement}
 use Rattle.antennas.proofs.llr_of_two.Tie as tie
 
