@@ -25,10 +25,10 @@ pub record TurnsSigns {Samples : Type 0} (N : ℕ) (front : Front Samples) (llr 
       → front .llrs samples old
       ≡ unlessRefused (front .number samples (length old)) (overwrite N (llr samples) old) old
   pub room-long : (samples : Samples) (room : ℕ) → front .number samples room ≡ 0 → N ≤ room
-  pub number-same : (bit : ℕ → Bool) (samples : Samples) (room : ℕ)
-      → front .number (front .flip bit samples) room ≡ front .number samples room
   pub llr-flips : (bit : ℕ → Bool) (samples : Samples) (i : ℕ) → i < N
       → llr (front .flip bit samples) i ≡ flipped (bit i) (llr samples i)
+  pub number-same : (bit : ℕ → Bool) (samples : Samples) (room : ℕ)
+      → front .number (front .flip bit samples) room ≡ front .number samples room
 
 module _ {Samples : Type 0} {N : ℕ} {front : Front Samples} {llr : Samples → ℕ → ℤ} (law : TurnsSigns N front llr) where
   llr-written : (samples : Samples) (old : List ℤ) → front .number samples (length old) ≡ 0 → (i : ℕ) → i < N
@@ -58,8 +58,8 @@ channel-odd s channel =
     odd-front {llr = λ samples i. llrOf (s .ceiling) channel (getD samples i nan)} (record {
       written = λ samples old. refl;
       room-long = channelLaws.front-room (s .m) (s .ceiling) channel;
-      number-same = channelLaws.front-number-flipped (s .m) (s .ceiling) channel;
       llr-flips = channelLaws.llr-at-flipped (2 ^ s .m) (s .ceiling) channel;
+      number-same = channelLaws.front-number-flipped (s .m) (s .ceiling) channel;
     })
 
 pub antennas-odd : (s : Settings) (receiver : Receiver) → OddFront (2 ^ s .m) (antennasFront s receiver)
@@ -67,6 +67,6 @@ antennas-odd s receiver =
     odd-front {llr = llrAt (s .ceiling) receiver} (record {
       written = λ samples old. refl;
       room-long = antennasLaws.front-two-room (s .m) (s .ceiling) receiver;
-      number-same = antennasLaws.front-two-number-flipped (s .m) (s .ceiling) receiver;
       llr-flips = antennasLaws.llr-at-flipped (2 ^ s .m) (s .ceiling) receiver;
+      number-same = antennasLaws.front-two-number-flipped (s .m) (s .ceiling) receiver;
     })
