@@ -1,6 +1,6 @@
 /*
- * Vedrogne: polar coder, channel front, belief-propagation decoder, a tally for each radio, and the texts of blocks and
- * of their reports.
+ * Vedrogne: polar coder, channel fronts, belief-propagation decoder, a tally for each radio, and the texts of blocks
+ * and of their reports.
  *
  * Link with -Ltarget/staticlib -lvedrogne; `rt staticlib vedrogne` writes the archive, target/staticlib/libvedrogne.a.
  * It is for Linux on x86-64 and needs the C library alone. No function allocates memory, keeps a state between calls,
@@ -39,7 +39,7 @@
  *     8      a mask value in the first N is neither 0 nor 1                    encode, read_out, decode, read, write
  *     9      the mask has no information position                              encode, read_out, decode, read, write
  *    10      a log-likelihood ratio (LLR) in the first N has a size above C    decode, read, write
- *    11      the factor or the weight is not finite or not above zero          front_gaussian, front_flipping
+ *    11      a factor or the weight is not finite or not above zero            front, save front_erasing
  *    12      a sample in the first N is not finite                             front
  *    13      a message byte in the first K is above 1                          encode
  *    14      the text of a block is malformed. Its length and first three      read
@@ -104,6 +104,26 @@ uint32_t vedrogne_front_flipping(
 uint32_t vedrogne_front_erasing(
     uint32_t m, uint32_t ceiling,
     const float *samples, size_t samples_len,
+    int16_t *llr, size_t llr_len);
+
+/*
+ * The front for two antennas of a Gaussian channel, each a branch with its own samples and its own factor: each pair
+ * first[i], second[i] becomes one log-likelihood ratio llr[i].
+ *   - Each branch's product of sample and factor is a 32-bit float, rounded once, and then cut to -4096..4096. One too
+ *     large for the format is cut to 4096 with its sign, so two opposite ones give 0.
+ *   - The two are added as 32-bit floats, with one rounding.
+ *   - The sum becomes a whole number as above.
+ * Every rounding of a float is to the nearest, ties to even.
+ *
+ * Where a branch has the amplitude a and noise of variance v, its exact factor is 2 a / v; take the same multiple of it
+ * for both. It makes no difference which branch is the first. With zeros in a branch the answer and the LLRs are those
+ * of vedrogne_front_gaussian for the other.
+ * Needed: N elements of first, second and llr. Numbers: 1, 2, 7, 11 (either factor), 12 (a sample of either branch).
+ */
+uint32_t vedrogne_front_two(
+    uint32_t m, uint32_t ceiling, float first_factor, float second_factor,
+    const float *first, size_t first_len,
+    const float *second, size_t second_len,
     int16_t *llr, size_t llr_len);
 
 /*

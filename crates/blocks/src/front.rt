@@ -12,11 +12,11 @@ fn front(m: u32, ceiling: u32, channel: Channel, samples: &[f32], llr: &mut [i16
 }
 
 // Two values that no literal writes.
-fn infinity() -> f32 {
+pub fn infinity() -> f32 {
     f32::from_bits(0x7f80_0000)
 }
 
-fn not_a_number() -> f32 {
+pub fn not_a_number() -> f32 {
     infinity() - infinity()
 }
 
