@@ -1,4 +1,4 @@
-//! The channel front: samples to whole LLRs.
+//! The channel front: samples to whole LLRs, for one antenna and for two.
 
 use crate::code::{block_len, require_lengths};
 use crate::refusal::{require, Refusal};
@@ -14,6 +14,16 @@ pub enum Channel {
     Erasing,
 }
 
+/// With two antennas the largest size of a branch's product.
+pub const LARGEST_PRODUCT: f32 = 4096.0;
+
+/// A receiver with two antennas: the factor of each branch.
+#[derive(Clone, Copy, Debug)]
+pub struct Receiver {
+    pub first: f32,
+    pub second: f32,
+}
+
 /// Turns the first N samples into LLRs. Refusals 1, 2, 7, 11, 12.
 pub fn front(
     m: i64,
@@ -22,18 +32,60 @@ pub fn front(
     samples: &[f32],
     llr: &mut [i16],
 ) -> Result<(), Refusal> {
-    let n = block_len(m)?;
-    require((1..=2047).contains(&ceiling), Refusal::Ceiling)?;
-    require_lengths(n, &[samples.len(), llr.len()])?;
-    if let Channel::Gaussian(number) | Channel::Flipping(number) = channel {
-        require(number.is_finite() && number > 0.0, Refusal::Factor)?;
-    }
-    let samples = &samples[..n];
-    require(samples.iter().all(|s| s.is_finite()), Refusal::Sample)?;
+    let factors = match channel {
+        Channel::Gaussian(number) | Channel::Flipping(number) => vec![number],
+        Channel::Erasing => vec![],
+    };
+    let [samples] = tested(m, ceiling, &factors, [samples], llr.len())?;
     for (target, &sample) in llr.iter_mut().zip(samples) {
         *target = one_llr(ceiling, channel, sample);
     }
     Ok(())
+}
+
+/// Turns the first N samples of both branches into LLRs, those of one position
+/// into one. Refusals 1, 2, 7, 11, 12.
+pub fn front_two(
+    m: i64,
+    ceiling: i64,
+    receiver: Receiver,
+    branches: [&[f32]; 2],
+    llr: &mut [i16],
+) -> Result<(), Refusal> {
+    let factors = [receiver.first, receiver.second];
+    let [first, second] = tested(m, ceiling, &factors, branches, llr.len())?;
+    for (target, samples) in llr.iter_mut().zip(first.iter().zip(second)) {
+        // Each product and the sum are rounded once; the sum is finite.
+        let sum = cut(samples.0 * receiver.first) + cut(samples.1 * receiver.second);
+        *target = whole(ceiling, sum);
+    }
+    Ok(())
+}
+
+/// What every front tests of its factors or weight and of its branches. The
+/// first N samples of each branch.
+fn tested<'a, const BRANCHES: usize>(
+    m: i64,
+    ceiling: i64,
+    factors: &[f32],
+    branches: [&'a [f32]; BRANCHES],
+    llr_len: usize,
+) -> Result<[&'a [f32]; BRANCHES], Refusal> {
+    let n = block_len(m)?;
+    require((1..=2047).contains(&ceiling), Refusal::Ceiling)?;
+    require_lengths(n, &branches.map(<[f32]>::len))?;
+    require_lengths(n, &[llr_len])?;
+    let usable = |factor: &f32| factor.is_finite() && *factor > 0.0;
+    require(factors.iter().all(usable), Refusal::Factor)?;
+    let branches = branches.map(|samples| &samples[..n]);
+    let finite = |samples: &&[f32]| samples.iter().all(|s| s.is_finite());
+    require(branches.iter().all(finite), Refusal::Sample)?;
+    Ok(branches)
+}
+
+/// A branch's product, which may be infinite, cut to the largest size.
+pub fn cut(product: f32) -> f32 {
+    product.clamp(-LARGEST_PRODUCT, LARGEST_PRODUCT)
 }
 
 /// The LLR of one finite sample.

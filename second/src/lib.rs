@@ -1,5 +1,6 @@
-//! A second coder, channel front, decoder, report and tidy writer for polar
-//! blocks, with a tally for each radio and a summary of these.
+//! A second coder, channel front for one antenna and for two, decoder, report
+//! and tidy writer for polar blocks, with a tally for each radio and a summary
+//! of these.
 //!
 //! Written from document 01 of the tender (`01-scope.md`) and the change
 //! requests to it, not from the proved code. It exists to be compared with the
@@ -24,7 +25,7 @@ pub mod tidy;
 
 pub use code::{encode, read_out};
 pub use decode::{decode, Ending, Lent, Settings};
-pub use front::{front, Channel};
+pub use front::{front, front_two, Channel, Receiver};
 pub use radios::{decode_radio, Radios, RADIOS};
 pub use refusal::Refusal;
 pub use report::report;
@@ -33,6 +34,8 @@ pub use tally::Tally;
 pub use text::read;
 pub use tidy::{tidy, write};
 
+#[cfg(test)]
+mod front_tests;
 #[cfg(test)]
 mod radios_tests;
 #[cfg(test)]

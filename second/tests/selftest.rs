@@ -88,6 +88,55 @@ const FAULTS: &[&str] = &[
     "criterion_5_accepted",
     "read_criterion_4",
     "report_criterion_4",
+    "antennas_2_before_1",
+    "antennas_7_before_2",
+    "antennas_11_before_7",
+    "antennas_12_before_11",
+    "antennas_first_length",
+    "antennas_first_one_less",
+    "antennas_first_one_more",
+    "antennas_second_length",
+    "antennas_second_one_less",
+    "antennas_second_one_more",
+    "antennas_llr_one_less",
+    "antennas_llr_one_more",
+    "antennas_first_factor_tested",
+    "antennas_second_factor_tested",
+    "antennas_either_factor",
+    "antennas_factor_sum",
+    "antennas_factor_product",
+    "antennas_factor_0",
+    "antennas_subnormal_factor",
+    "antennas_first_samples_tested",
+    "antennas_second_samples_tested",
+    "antennas_rest_tested",
+    "antennas_infinite_refused",
+    "antennas_settings_cut",
+    "antennas_refusal_writes",
+    "antennas_rest_cleared",
+    "antennas_samples_written",
+    "antennas_subnormal_sample",
+    "antennas_first_factor_for_both",
+    "antennas_second_factor_for_both",
+    "antennas_factors_exchanged",
+    "antennas_double_product",
+    "antennas_not_cut",
+    "antennas_first_not_cut",
+    "antennas_second_not_cut",
+    "antennas_infinite_not_cut",
+    "antennas_cut_4095",
+    "antennas_cut_next_below",
+    "antennas_cut_next_above",
+    "antennas_cut_at_ceiling",
+    "antennas_double_sum",
+    "antennas_sum_toward_zero",
+    "antennas_fused",
+    "antennas_no_number",
+    "antennas_whole_products",
+    "antennas_mean",
+    "antennas_larger",
+    "antennas_half_even",
+    "antennas_half_up",
 ];
 
 /// Faults of a summary program.
@@ -144,6 +193,33 @@ const UNCERTAIN: &[&str] = &[
     "report_sums",
 ];
 
+/// Faults that are found where both sides have them, and what is then told:
+/// each of them breaks one property alone.
+const BOTH_WRONG: &[(&str, &str)] = &[
+    ("frozen_minus", "a frozen position is not certain"),
+    ("criterion_4_frozen", "criteria 2 and 4 disagree"),
+    ("radio_counts_in_0", "the tallies are not the counts"),
+    ("signed_product_shifted", MESSAGES),
+    ("zero_sign", MESSAGES),
+    ("antennas_no_number", MESSAGES),
+    ("antennas_first_factor_for_both", EXCHANGED),
+    ("antennas_first_factor_tested", EXCHANGED),
+    ("antennas_first_samples_tested", EXCHANGED),
+    ("antennas_second_one_less", EXCHANGED),
+    ("antennas_first_not_cut", EXCHANGED),
+    ("antennas_fused", EXCHANGED),
+    ("antennas_12_before_11", ZEROS),
+    ("antennas_llr_one_less", ZEROS),
+    ("antennas_infinite_refused", ZEROS),
+    ("antennas_factors_exchanged", ZEROS),
+    ("antennas_mean", ZEROS),
+    ("antennas_half_even", ZEROS),
+];
+
+const MESSAGES: &str = "the property fails";
+const EXCHANGED: &str = "the branches exchanged make a difference";
+const ZEROS: &str = "zeros in the second branch make a difference";
+
 /// Whether criteria 2 and 4 differ by a fault, as the call that is told shows:
 /// by each one of criterion 4, and by two others.
 fn is_disagreement(fault: &str) -> bool {
@@ -155,11 +231,15 @@ const TIDY: &str = env!("CARGO_BIN_EXE_tidy");
 const RADIOS: &str = env!("CARGO_BIN_EXE_radios");
 const WRONG_RADIOS: &str = env!("CARGO_BIN_EXE_wrong_radios");
 
-fn run(fault: &str, programs: [&str; 3]) -> Output {
+fn command(fault: &str, programs: [&str; 3]) -> Command {
     let mut command = Command::new(env!("CARGO_BIN_EXE_compare"));
     command.env("VEDROGNE_WRONG", fault);
-    let output = command.args(["7", "10000"]).args(programs).output();
-    output.expect("compare runs")
+    command.args(["7", "10000"]).args(programs);
+    command
+}
+
+fn run(fault: &str, programs: [&str; 3]) -> Output {
+    command(fault, programs).output().expect("compare runs")
 }
 
 fn exit_code(programs: [&str; 3]) -> Option<i32> {
@@ -167,7 +247,7 @@ fn exit_code(programs: [&str; 3]) -> Option<i32> {
 }
 
 /// Calls for a radio with each combination of reasons to be refused are among
-/// the calls.
+/// the calls, and calls for two antennas with each rare kind of a pair.
 #[test]
 fn no_fault_no_difference() {
     let output = run("", [REPORT, TIDY, RADIOS]);
@@ -175,6 +255,7 @@ fn no_fault_no_difference() {
     let told = String::from_utf8_lossy(&output.stdout);
     let combinations = told.matches("calls for a radio, reasons to refuse: ");
     assert_eq!(combinations.count(), 16);
+    assert_eq!(told.matches("two antennas: calls with ").count(), 6);
 }
 
 #[test]
@@ -187,6 +268,18 @@ fn every_fault_is_found() {
         assert_eq!(uncertain, UNCERTAIN.contains(fault), "{fault}");
         let disagreeing = told.contains("criteria 2 and 4 disagree");
         assert_eq!(disagreeing, is_disagreement(fault), "{fault}");
+    }
+}
+
+#[test]
+fn a_fault_of_both_sides_is_found() {
+    for (fault, reason) in BOTH_WRONG {
+        let mut command = command(fault, [REPORT, TIDY, RADIOS]);
+        let output = command.env("VEDROGNE_BOTH_WRONG", "yes").output();
+        let output = output.expect("compare runs");
+        assert_eq!(output.status.code(), Some(1), "{fault}");
+        let told = String::from_utf8_lossy(&output.stdout);
+        assert!(told.contains(reason), "{fault}");
     }
 }
 

@@ -15,6 +15,8 @@
 
 #[path = "compare/agree.rs"]
 mod agree;
+#[path = "compare/antennas.rs"]
+mod antennas;
 #[path = "compare/calls.rs"]
 mod calls;
 #[path = "compare/comparing.rs"]
@@ -29,6 +31,10 @@ mod foreign;
 #[cfg(not(any(archive, feature = "selftest")))]
 #[path = "compare/unlinked.rs"]
 mod foreign;
+#[path = "compare/front_calls.rs"]
+mod front_calls;
+#[path = "compare/front_draws.rs"]
+mod front_draws;
 #[path = "compare/frozen.rs"]
 mod frozen;
 #[path = "compare/generate.rs"]
@@ -40,6 +46,8 @@ mod lists;
 #[cfg_attr(not(any(archive, feature = "selftest")), allow(dead_code))]
 #[path = "compare/memory.rs"]
 mod memory;
+#[path = "compare/pairs.rs"]
+mod pairs;
 #[path = "compare/plan.rs"]
 mod plan;
 #[path = "compare/programs.rs"]
@@ -57,6 +65,9 @@ mod runs;
 #[cfg(feature = "selftest")]
 #[path = "compare/selftest.rs"]
 mod selftest;
+#[cfg(feature = "selftest")]
+#[path = "compare/selftest_antennas.rs"]
+mod selftest_antennas;
 #[cfg(feature = "selftest")]
 #[path = "compare/selftest_criteria.rs"]
 mod selftest_criteria;

@@ -3,7 +3,7 @@
 use crate::frozen::uncertain;
 use crate::memory::{Fenced, Memory};
 use crate::plan::{CEILING, M};
-use second::{Channel, Ending, Lent, Radios, Refusal, Settings};
+use second::{Ending, Lent, Radios, Refusal, Settings};
 
 #[derive(Clone)]
 pub struct EncodeCall {
@@ -19,15 +19,6 @@ pub struct ReadOutCall {
     pub mask: Fenced<u8>,
     pub bits: Fenced<u8>,
     pub message: Fenced<u8>,
-}
-
-#[derive(Clone)]
-pub struct FrontCall {
-    pub m: u32,
-    pub ceiling: u32,
-    pub channel: Channel,
-    pub samples: Fenced<f32>,
-    pub llr: Fenced<i16>,
 }
 
 /// What a call for a radio is handed before the decoder's own arguments.
@@ -89,7 +80,7 @@ pub trait Call: Clone {
 }
 
 /// The number that a C call returns.
-fn number(answer: Result<(), Refusal>) -> u32 {
+pub fn number(answer: Result<(), Refusal>) -> u32 {
     answer.map_or_else(Refusal::number, |()| 0)
 }
 
@@ -140,37 +131,6 @@ impl Call for ReadOutCall {
         let (mask, bits) = (self.mask.slice(), self.bits.slice());
         let message = self.message.slice_mut();
         number(second::read_out(i64::from(self.m), mask, bits, message))
-    }
-}
-
-impl Call for FrontCall {
-    fn name(&self) -> &'static str {
-        match self.channel {
-            Channel::Gaussian(_) => "vedrogne_front_gaussian",
-            Channel::Flipping(_) => "vedrogne_front_flipping",
-            Channel::Erasing => "vedrogne_front_erasing",
-        }
-    }
-
-    fn arguments(&self) -> Vec<Argument> {
-        let mut arguments = vec![Argument::Number(self.m), Argument::Number(self.ceiling)];
-        if let Channel::Gaussian(number) | Channel::Flipping(number) = self.channel {
-            arguments.push(Argument::Float(number.to_bits()));
-        }
-        arguments.push(Argument::Slice(self.samples.shown("samples")));
-        arguments.push(Argument::Slice(self.llr.shown("llr")));
-        arguments
-    }
-
-    fn foreign(&mut self) -> u32 {
-        crate::foreign::front(self)
-    }
-
-    fn second(&mut self) -> u32 {
-        let (m, ceiling) = (i64::from(self.m), i64::from(self.ceiling));
-        let samples = self.samples.slice();
-        let llr = self.llr.slice_mut();
-        number(second::front(m, ceiling, self.channel, samples, llr))
     }
 }
 

@@ -1,6 +1,7 @@
 //! One comparison after the other, each with its own generator.
 
 use crate::calls::DecodeCall;
+use crate::front_draws::draw_front;
 use crate::generate::*;
 use crate::judge::{Difference, Judge};
 use crate::plan::{draw_m, CRITERION};
@@ -8,7 +9,8 @@ use crate::programs::{check_radios, check_report, check_tidy, Programs};
 use crate::radio_draws::draw_for_radio;
 use crate::rng::Rng;
 use crate::text_draws::{draw_read, draw_report, draw_write};
-use crate::{agree, property, runs, spellings};
+use crate::{agree, antennas, property, runs, spellings};
+use second::{Channel, Receiver};
 
 /// Makes comparison number `index` under the seed.
 pub fn compare_one(
@@ -19,25 +21,30 @@ pub fn compare_one(
 ) -> Result<(), Difference> {
     let mut rng = Rng::for_comparison(seed, index);
     let rng = &mut rng;
-    match rng.below(145) {
+    match rng.below(163) {
         0..=11 => judge.check(&draw_encode(rng)).map(|_| ()),
         12..=19 => judge.check(&draw_read_out(rng)).map(|_| ()),
-        20..=41 => judge.check(&draw_front(rng)).map(|_| ()),
-        42..=64 => {
+        20..=41 => judge.check(&draw_front::<Channel>(rng)).map(|_| ()),
+        42..=55 => {
+            let call = draw_front(rng);
+            antennas::check(rng, judge, &call)
+        }
+        56..=78 => {
             let m = draw_m(rng);
             let plan = draw_decode(rng, m);
             let call = build_decode(rng, &plan, None);
             check_decode(rng, judge, &call)
         }
-        65..=75 => check_for_radio(rng, judge),
-        76..=81 => property::check(rng, judge),
-        82..=84 => runs::check(rng, judge),
-        85..=94 => judge.check(&draw_read(rng)).map(|_| ()),
-        95..=104 => judge.check(&draw_write(rng)).map(|_| ()),
-        105..=110 => check_report_call(rng, judge),
-        111..=112 => spellings::check(rng, judge),
-        113..=124 => check_report(rng, judge, programs.report.as_deref()),
-        125..=132 => check_tidy(rng, judge, programs.tidy.as_deref()),
+        79..=89 => check_for_radio(rng, judge),
+        90..=95 => property::check::<Channel>(rng, judge),
+        96..=99 => property::check::<Receiver>(rng, judge),
+        100..=102 => runs::check(rng, judge),
+        103..=112 => judge.check(&draw_read(rng)).map(|_| ()),
+        113..=122 => judge.check(&draw_write(rng)).map(|_| ()),
+        123..=128 => check_report_call(rng, judge),
+        129..=130 => spellings::check(rng, judge),
+        131..=142 => check_report(rng, judge, programs.report.as_deref()),
+        143..=150 => check_tidy(rng, judge, programs.tidy.as_deref()),
         _ => check_radios(rng, judge, programs.radios.as_deref()),
     }
 }

@@ -29,7 +29,7 @@ pub fn bad_number(rng: &mut Rng) -> f32 {
 }
 
 /// The value or one of its neighbours.
-fn near(rng: &mut Rng, value: f32) -> f32 {
+pub fn near(rng: &mut Rng, value: f32) -> f32 {
     let bits = i64::from(value.to_bits()) + rng.between(-2, 2);
     let moved = f32::from_bits(bits.max(0) as u32);
     if moved.is_finite() {
@@ -40,7 +40,7 @@ fn near(rng: &mut Rng, value: f32) -> f32 {
 }
 
 /// Sizes where the whole number changes: halves and the ceiling.
-fn edge(rng: &mut Rng, ceiling: i64) -> f32 {
+pub fn edge(rng: &mut Rng, ceiling: i64) -> f32 {
     let ceiling = ceiling.clamp(1, 2047);
     match rng.below(4) {
         0 => ceiling as f32,
@@ -50,7 +50,7 @@ fn edge(rng: &mut Rng, ceiling: i64) -> f32 {
 }
 
 /// A size of any kind, finite and not below zero.
-fn any_size(rng: &mut Rng) -> f32 {
+pub fn any_size(rng: &mut Rng) -> f32 {
     match rng.below(4) {
         0 => f32::from_bits((rng.next() % 0x7f80_0000) as u32),
         1 => f32::from_bits((rng.next() % 0x0080_0000) as u32),
@@ -90,14 +90,24 @@ pub fn draw_channel(rng: &mut Rng, ceiling: i64) -> Channel {
     }
 }
 
+/// A finite sample whose product with the factor is the value, if there is one,
+/// else close to it.
+pub fn sample_for(value: f32, factor: f32) -> f32 {
+    let quotient = (value / factor).clamp(-f32::MAX, f32::MAX);
+    let bits = quotient.to_bits();
+    // Where the quotient was rounded, one of its neighbours may be right.
+    let neighbours = [bits, bits.wrapping_add(1), bits.wrapping_sub(1)].map(f32::from_bits);
+    let right = |sample: &f32| sample.is_finite() && sample * factor == value;
+    neighbours.into_iter().find(right).unwrap_or(quotient)
+}
+
 /// A finite sample; many lead to values at halves or at the ceiling.
-fn finite_sample(rng: &mut Rng, ceiling: i64, factor: f32) -> f32 {
+pub fn finite_sample(rng: &mut Rng, ceiling: i64, factor: f32) -> f32 {
     let size = match rng.below(8) {
         0 => 0.0,
         1..=3 => {
-            let value = edge(rng, ceiling) / factor;
-            let value = if value.is_finite() { value } else { f32::MAX };
-            near(rng, value)
+            let sample = sample_for(edge(rng, ceiling), factor);
+            near(rng, sample)
         }
         4 | 5 => rng.between(0, 4000) as f32 / 1000.0,
         _ => any_size(rng),

@@ -1,8 +1,9 @@
 //! The C boundary: the library under test, called through its C names.
 
-use crate::calls::{Counting, DecodeCall, EncodeCall, FrontCall, ReadOutCall};
+use crate::calls::{Counting, DecodeCall, EncodeCall, ReadOutCall};
+use crate::front_calls::FrontCall;
 use crate::text_calls::{ReadCall, ReportCall, WriteCall};
-use second::Channel;
+use second::{Channel, Receiver};
 
 extern "C" {
     fn vedrogne_encode(
@@ -50,6 +51,19 @@ extern "C" {
         ceiling: u32,
         samples: *const f32,
         samples_len: usize,
+        llr: *mut i16,
+        llr_len: usize,
+    ) -> u32;
+
+    fn vedrogne_front_two(
+        m: u32,
+        ceiling: u32,
+        first_factor: f32,
+        second_factor: f32,
+        first: *const f32,
+        first_len: usize,
+        second: *const f32,
+        second_len: usize,
         llr: *mut i16,
         llr_len: usize,
     ) -> u32;
@@ -161,13 +175,14 @@ pub fn read_out(call: &mut ReadOutCall) -> u32 {
     }
 }
 
-pub fn front(call: &mut FrontCall) -> u32 {
+pub fn front(call: &mut FrontCall<Channel>) -> u32 {
     let (m, ceiling) = (call.m, call.ceiling);
-    let (samples, samples_len) = (call.samples.pointer(), call.samples.len());
+    let samples = &mut call.branches[0];
+    let (samples, samples_len) = (samples.pointer(), samples.len());
     let (llr, llr_len) = (call.llr.pointer(), call.llr.len());
     // Safety: as in `encode`.
     unsafe {
-        match call.channel {
+        match call.front {
             Channel::Gaussian(factor) => {
                 vedrogne_front_gaussian(m, ceiling, factor, samples, samples_len, llr, llr_len)
             }
@@ -178,6 +193,24 @@ pub fn front(call: &mut FrontCall) -> u32 {
                 vedrogne_front_erasing(m, ceiling, samples, samples_len, llr, llr_len)
             }
         }
+    }
+}
+
+pub fn front_two(call: &mut FrontCall<Receiver>) -> u32 {
+    // Safety: as in `encode`.
+    unsafe {
+        vedrogne_front_two(
+            call.m,
+            call.ceiling,
+            call.front.first,
+            call.front.second,
+            call.branches[0].pointer(),
+            call.branches[0].len(),
+            call.branches[1].pointer(),
+            call.branches[1].len(),
+            call.llr.pointer(),
+            call.llr.len(),
+        )
     }
 }
 

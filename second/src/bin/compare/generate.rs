@@ -1,11 +1,9 @@
 //! Random calls, good ones and ones that are refused for one or more reasons.
 
-use crate::calls::{Counting, DecodeCall, EncodeCall, FrontCall, ReadOutCall};
-use crate::floats::{bad_number, draw_channel, draw_samples, not_finite};
+use crate::calls::{Counting, DecodeCall, EncodeCall, ReadOutCall};
 use crate::memory::Fenced;
 use crate::plan::*;
 use crate::rng::Rng;
-use second::Channel;
 
 /// How many faults a call gets.
 pub fn fault_count(rng: &mut Rng) -> usize {
@@ -27,7 +25,7 @@ pub fn enough(rng: &mut Rng, needed: usize) -> usize {
 }
 
 /// A length that does not suffice: mostly short by one, or empty.
-fn short(rng: &mut Rng, needed: usize) -> usize {
+pub fn short(rng: &mut Rng, needed: usize) -> usize {
     match rng.below(4) {
         0 => 0,
         1 => rng.below(needed),
@@ -169,37 +167,6 @@ pub fn draw_read_out(rng: &mut Rng) -> ReadOutCall {
         mask: Fenced::new(rng, &coding.mask, mask_len),
         bits: Fenced::blank(rng, bits_len),
         message: Fenced::blank(rng, message_len),
-    }
-}
-
-pub fn draw_front(rng: &mut Rng) -> FrontCall {
-    let (mut m, mut ceiling) = (draw_m(rng), draw_ceiling(rng));
-    let n = 1 << m;
-    let mut channel = draw_channel(rng, ceiling);
-    let mut samples = draw_samples(rng, n, ceiling, channel);
-    let mut lengths = [enough(rng, n), enough(rng, n)];
-    for _ in 0..fault_count(rng) {
-        match rng.below(6) {
-            0 => m = bad_m(rng),
-            1 => ceiling = bad_ceiling(rng),
-            2 => lengths[0] = short(rng, n),
-            3 => lengths[1] = short(rng, n),
-            4 => spoil_channel(rng, &mut channel),
-            _ => samples[rng.below(n)] = not_finite(rng),
-        }
-    }
-    FrontCall {
-        m: m as u32,
-        ceiling: ceiling as u32,
-        channel,
-        samples: Fenced::new(rng, &samples, lengths[0]),
-        llr: Fenced::blank(rng, lengths[1]),
-    }
-}
-
-pub fn spoil_channel(rng: &mut Rng, channel: &mut Channel) {
-    if let Channel::Gaussian(number) | Channel::Flipping(number) = channel {
-        *number = bad_number(rng);
     }
 }
 

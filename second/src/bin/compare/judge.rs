@@ -2,6 +2,8 @@
 
 use crate::agree::{disagreement, Named};
 use crate::calls::{Call, DecodeCall};
+#[cfg(feature = "selftest")]
+use crate::selftest::both_wrong;
 use crate::show::{c_program, differences};
 use std::collections::BTreeMap;
 
@@ -23,6 +25,12 @@ pub struct Judge {
     events: BTreeMap<String, u64>,
 }
 
+/// Both sides are wrong in the self-test alone.
+#[cfg(not(feature = "selftest"))]
+fn both_wrong() -> bool {
+    false
+}
+
 impl Judge {
     pub fn count_answer(&mut self, kind: &str, answer: u32) {
         let row = self.answers.entry(kind.to_string()).or_default();
@@ -41,7 +49,11 @@ impl Judge {
         }
         let (mut theirs, mut ours) = (call.clone(), call.clone());
         let their_answer = theirs.foreign();
-        let our_answer = ours.second();
+        let our_answer = if both_wrong() {
+            ours.foreign()
+        } else {
+            ours.second()
+        };
         let (one, other) = ((their_answer, &theirs), (our_answer, &ours));
         let mut told = differences(one, other, "second library");
         if their_answer == 0 && our_answer == 0 {

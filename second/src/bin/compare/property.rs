@@ -1,26 +1,25 @@
-//! The section "Message and outcome" as a property of two runs.
+//! The section "Message and outcome" as a property of two runs, with one
+//! antenna or with two.
 
-use crate::calls::{Call, DecodeCall, EncodeCall, FrontCall};
-use crate::floats::{draw_channel, draw_samples, not_finite};
+use crate::calls::{Call, DecodeCall, EncodeCall};
+use crate::front_calls::{Front, FrontCall};
+use crate::front_draws::{good_front, spoil_factor, spoil_sample};
 use crate::generate::*;
 use crate::judge::{Difference, Judge};
 use crate::memory::Fenced;
 use crate::plan::{draw_m, CEILING};
 use crate::rng::Rng;
 use crate::show::c_program;
-use second::Channel;
 
-/// What both runs have in common.
-struct Common {
+/// What both runs have in common. The first has these samples.
+struct Common<F> {
     decode: DecodePlan,
-    channel: Channel,
-    samples: Vec<f32>,
-    samples_len: usize,
+    front: FrontCall<F>,
 }
 
 /// One run of front and decoder: its calls as they were left, and its answers.
-struct Run {
-    front: (u32, FrontCall),
+struct Run<F> {
+    front: (u32, FrontCall<F>),
     decode: Option<(u32, DecodeCall)>,
 }
 
@@ -41,37 +40,28 @@ fn judged(marks: &[u8], bits: &[u8]) -> Vec<Judged> {
     marks.iter().zip(bits).map(one).collect()
 }
 
-/// Draws one block, runs it twice and compares what is right, wrong and tied.
-pub fn check(rng: &mut Rng, judge: &mut Judge) -> Result<(), Difference> {
-    let common = draw_common(rng);
-    let (u, block) = draw_block(rng, judge, &common)?;
-    let first_bits = vec![0; u.len()];
-    let first = run(rng, judge, &common, common.samples.clone())?;
-    let mut samples = common.samples.clone();
-    for (sample, &bit) in samples.iter_mut().zip(&block) {
-        *sample = if bit == 1 { -*sample } else { *sample };
-    }
-    let second = run(rng, judge, &common, samples)?;
-    if same_numbers(&first, &second)
-        && same_judgement(&first, &second, [&first_bits, &u], [&first_bits, &block])
-    {
+/// Draws one block, runs it twice and compares what comes out.
+pub fn check<F: Front>(rng: &mut Rng, judge: &mut Judge) -> Result<(), Difference> {
+    let common = draw_common::<F>(rng);
+    let (u, block) = draw_block(rng, judge, &common.decode)?;
+    let first = run(rng, judge, &common, common.front.clone())?;
+    let second = run(rng, judge, &common, negated(&common.front, &block))?;
+    if same_numbers(&first, &second) && same_outcome(&first, &second, &u, &block) {
         count(judge, &first, &u);
         return Ok(());
     }
     Err(failure(&first, &second, &u))
 }
 
-fn draw_common(rng: &mut Rng) -> Common {
+fn draw_common<F: Front>(rng: &mut Rng) -> Common<F> {
     let m = draw_m(rng);
     let mut decode = good_decode(rng, m);
-    let ceiling = decode.plan.settings[CEILING];
-    let mut channel = draw_channel(rng, ceiling);
     let n = decode.plan.mask.len();
-    let mut samples = draw_samples(rng, n, ceiling, channel);
+    let mut front = good_front::<F>(rng, m, decode.plan.settings[CEILING]);
     if rng.chance(25) {
         match rng.below(4) {
-            0 => spoil_channel(rng, &mut channel),
-            1 => samples[rng.below(n)] = not_finite(rng),
+            0 => spoil_factor(rng, &mut front.front),
+            1 => spoil_sample(rng, n, &mut front),
             2 => {
                 let place = 1 + rng.below(5);
                 spoil_setting(rng, place, &mut decode.plan.settings);
@@ -80,21 +70,28 @@ fn draw_common(rng: &mut Rng) -> Common {
             _ => decode.lengths[1 + rng.below(6)] = rng.below(n),
         }
     }
-    Common {
-        samples_len: enough(rng, n),
-        decode,
-        channel,
-        samples,
+    front.ceiling = decode.plan.settings[CEILING] as u32;
+    Common { decode, front }
+}
+
+/// The samples of every branch negated where the block has a 1.
+fn negated<F: Front>(call: &FrontCall<F>, block: &[u8]) -> FrontCall<F> {
+    let mut call = call.clone();
+    for samples in &mut call.branches {
+        for (sample, &bit) in samples.slice_mut().iter_mut().zip(block) {
+            *sample = if bit == 1 { -*sample } else { *sample };
+        }
     }
+    call
 }
 
 /// A message, as u, and the block that the coder gives for it.
 fn draw_block(
     rng: &mut Rng,
     judge: &mut Judge,
-    common: &Common,
+    decode: &DecodePlan,
 ) -> Result<(Vec<u8>, Vec<u8>), Difference> {
-    let mask = bytes(&common.decode.plan.mask);
+    let mask = bytes(&decode.plan.mask);
     let mut u = vec![0; mask.len()];
     let mut message = Vec::new();
     for (bit, _) in u.iter_mut().zip(&mask).filter(|(_, &frozen)| frozen == 0) {
@@ -102,7 +99,7 @@ fn draw_block(
         message.push(*bit);
     }
     let call = EncodeCall {
-        m: common.decode.plan.settings[0] as u32,
+        m: decode.plan.settings[0] as u32,
         mask: Fenced::new(rng, &mask, mask.len()),
         message: Fenced::new(rng, &message, message.len()),
         block: Fenced::blank(rng, mask.len()),
@@ -111,20 +108,15 @@ fn draw_block(
     Ok((u, after.block.slice().to_vec()))
 }
 
-fn run(
+/// Before each run the LLR slice holds something else.
+fn run<F: Front>(
     rng: &mut Rng,
     judge: &mut Judge,
-    common: &Common,
-    samples: Vec<f32>,
-) -> Result<Run, Difference> {
-    let call = FrontCall {
-        m: common.decode.plan.settings[0] as u32,
-        ceiling: common.decode.plan.settings[CEILING] as u32,
-        channel: common.channel,
-        samples: Fenced::new(rng, &samples, common.samples_len),
-        llr: Fenced::blank(rng, common.decode.lengths[1]),
-    };
-    let front = judge.check(&call)?;
+    common: &Common<F>,
+    mut front: FrontCall<F>,
+) -> Result<Run<F>, Difference> {
+    front.llr = Fenced::blank(rng, common.decode.lengths[1]);
+    let front = judge.check(&front)?;
     let mut decode = None;
     if front.0 == 0 {
         let mut call = build_decode(rng, &common.decode, None);
@@ -135,46 +127,64 @@ fn run(
 }
 
 /// Where one run is refused, the other is refused with the same number.
-fn same_numbers(first: &Run, second: &Run) -> bool {
-    let number = |run: &Run| run.decode.as_ref().map(|(answer, _)| *answer);
+fn same_numbers<F>(first: &Run<F>, second: &Run<F>) -> bool {
+    let number = |run: &Run<F>| run.decode.as_ref().map(|(answer, _)| *answer);
     first.front.0 == second.front.0 && number(first) == number(second)
 }
 
-/// The same positions are right, wrong and tied, among marks and coded marks.
-fn same_judgement(first: &Run, second: &Run, u: [&[u8]; 2], coded: [&[u8]; 2]) -> bool {
+/// The second run has the values of the first, negated where its bit is 1.
+fn negated_by(bits: &[u8], first: &Fenced<i16>, second: &Fenced<i16>) -> bool {
+    let pairs = first.slice().iter().zip(second.slice());
+    let expected = |value: i16, bit| if bit == 1 { -value } else { value };
+    let same = |((&one, &other), &bit): ((&i16, &i16), &u8)| expected(one, bit) == other;
+    pairs.zip(bits).all(same)
+}
+
+/// The same positions are right, wrong and tied, with values of the same size,
+/// at the same iteration for the same reason. The LLRs are negated by the block,
+/// as each front is odd.
+fn same_outcome<F>(first: &Run<F>, second: &Run<F>, u: &[u8], block: &[u8]) -> bool {
+    if first.front.0 == 0 && !negated_by(block, &first.front.1.llr, &second.front.1.llr) {
+        return false;
+    }
     let (Some((0, one)), Some((0, two))) = (&first.decode, &second.decode) else {
         return true;
     };
-    judged(one.mark.slice(), u[0]) == judged(two.mark.slice(), u[1])
-        && judged(one.coded_mark.slice(), coded[0]) == judged(two.coded_mark.slice(), coded[1])
+    let zeros = vec![0; u.len()];
+    one.iterations.slice() == two.iterations.slice()
+        && one.reason.slice() == two.reason.slice()
+        && negated_by(u, &one.soft, &two.soft)
+        && negated_by(block, &one.coded_soft, &two.coded_soft)
+        && judged(one.mark.slice(), &zeros) == judged(two.mark.slice(), u)
+        && judged(one.coded_mark.slice(), &zeros) == judged(two.coded_mark.slice(), block)
 }
 
-fn count(judge: &mut Judge, first: &Run, u: &[u8]) {
-    judge.count_event("property: pairs of runs");
+fn count<F: Front>(judge: &mut Judge, first: &Run<F>, u: &[u8]) {
+    let name = first.front.1.name();
+    let mut count = |what| judge.count_event(&format!("property with {name}: {what}"));
+    count("pairs of runs");
     let Some((0, decoded)) = &first.decode else {
-        judge.count_event("property: pairs refused alike");
+        count("pairs refused alike");
         return;
     };
     let marks = judged(decoded.mark.slice(), &vec![0; u.len()]);
     if marks.contains(&Judged::Wrong) {
-        judge.count_event("property: pairs with wrong marks");
+        count("pairs with wrong marks");
     }
     if marks.contains(&Judged::Tied) {
-        judge.count_event("property: pairs with ties");
+        count("pairs with ties");
     }
 }
 
-fn failure(first: &Run, second: &Run, u: &[u8]) -> Difference {
+fn failure<F: Front>(first: &Run<F>, second: &Run<F>, u: &[u8]) -> Difference {
     let mut text = format!("the property fails for u = {u:?}; the calls, as they were left:\n");
     for run in [first, second] {
-        text += &format!(
-            "front answered {}:\n{}",
-            run.front.0,
-            c_program(&run.front.1)
-        );
-        if let Some((answer, call)) = &run.decode {
-            text += &format!("{} answered {answer}:\n{}", call.name(), c_program(call));
-        }
+        text += &told(&run.front);
+        text += &run.decode.as_ref().map_or_else(String::new, told);
     }
     Difference(text)
+}
+
+fn told<C: Call>((answer, call): &(u32, C)) -> String {
+    format!("{} answered {answer}:\n{}", call.name(), c_program(call))
 }

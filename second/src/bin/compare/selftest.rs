@@ -1,6 +1,7 @@
 //! The second library under the C names, so that `compare` can be tried out
 //! without the other one. The environment variable VEDROGNE_WRONG names a
-//! fault that it then has; `compare` must find each of them.
+//! fault that it then has; `compare` must find each of them. With
+//! VEDROGNE_BOTH_WRONG both sides have it.
 
 use crate::{selftest_criteria, selftest_frozen, selftest_scaling};
 use second::{Channel, Lent, Refusal, Settings};
@@ -11,6 +12,13 @@ use std::sync::OnceLock;
 pub fn wrong(name: &str) -> bool {
     static WRONG: OnceLock<String> = OnceLock::new();
     WRONG.get_or_init(|| std::env::var("VEDROGNE_WRONG").unwrap_or_default()) == name
+}
+
+/// Whether both sides have the fault, so that it is only found by what is said
+/// of a call on its own or of several calls.
+pub fn both_wrong() -> bool {
+    static BOTH: OnceLock<bool> = OnceLock::new();
+    *BOTH.get_or_init(|| std::env::var_os("VEDROGNE_BOTH_WRONG").is_some())
 }
 
 fn number(answer: Result<(), Refusal>) -> u32 {

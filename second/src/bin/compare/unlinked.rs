@@ -1,7 +1,9 @@
 //! Stands in for the C boundary where no library is linked.
 
-use crate::calls::{DecodeCall, EncodeCall, FrontCall, ReadOutCall};
+use crate::calls::{DecodeCall, EncodeCall, ReadOutCall};
+use crate::front_calls::FrontCall;
 use crate::text_calls::{ReadCall, ReportCall, WriteCall};
+use second::{Channel, Receiver};
 
 fn unlinked() -> ! {
     eprintln!("compare was built without VEDROGNE_LIB: there is nothing to compare with");
@@ -16,7 +18,11 @@ pub fn read_out(_: &mut ReadOutCall) -> u32 {
     unlinked()
 }
 
-pub fn front(_: &mut FrontCall) -> u32 {
+pub fn front(_: &mut FrontCall<Channel>) -> u32 {
+    unlinked()
+}
+
+pub fn front_two(_: &mut FrontCall<Receiver>) -> u32 {
     unlinked()
 }
 
