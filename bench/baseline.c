@@ -1,6 +1,7 @@
-/* The hand-tuned baseline of the benchmark: message passing as document 01 defines it, in block loops that the
-   compiler vectorises, with the distances 1, 2, 4 and 8 as constants. Built with -O3. It tests nothing: the benchmark
-   hands it blocks that the proved decoder accepts. */
+/* The baseline of the benchmark: message passing as document 01 defines it, hand-tuned in block loops that the compiler
+   vectorises, with the distances 1, 2, 4 and 8 as constants; and the fronts for one antenna and for two, in plain
+   loops. Built with -O3. It tests nothing: the benchmark hands it what the proved decoder and fronts accept. */
+#include <math.h>
 #include <stddef.h>
 #include <stdint.h>
 #include <string.h>
@@ -118,4 +119,33 @@ uint32_t baseline_decode(unsigned m, int16_t top, int16_t k, uint32_t limit, uin
         if (t == limit || (criterion == 1 && g_matrix(m, mark, coded_mark)))
             return t;
     }
+}
+
+/* one comparison after the other, so that they become a packed minimum and a packed maximum */
+ALWAYS float cut(float value, float top) {
+    float low = value < top ? value : top;
+    return low > -top ? low : -top;
+}
+
+/* The nearest whole number, halves away from zero, cut to the ceiling. What is added is the largest float below 1/2:
+   with 1/2 itself, that float would become 1. */
+ALWAYS int16_t whole(float value, float top) {
+    return (int16_t)(cut(value, top) + copysignf(0x1.fffffep-2f, value));
+}
+
+void baseline_front_gaussian(unsigned m, int16_t top, float factor, const float *restrict samples,
+                             int16_t *restrict llr) {
+    size_t n = (size_t)1 << m;
+    for (size_t i = 0; i < n; i++)
+        llr[i] = whole(samples[i] * factor, top);
+}
+
+/* What each branch's product is cut to. As a constant it would keep the compiler from a minimum and a maximum. */
+float branch_top = 4096;
+
+void baseline_front_two(unsigned m, int16_t top, float first_factor, float second_factor,
+                        const float *restrict first, const float *restrict second, int16_t *restrict llr) {
+    size_t n = (size_t)1 << m;
+    for (size_t i = 0; i < n; i++)
+        llr[i] = whole(cut(first[i] * first_factor, branch_top) + cut(second[i] * second_factor, branch_top), top);
 }

@@ -1,9 +1,10 @@
 #!/usr/bin/env python3
-"""Draws curves.svg from curves.csv: frame error rate and iterations of the proved decoder over Eb/N0, by criterion.
+"""Draws curves.svg from curves.csv: frame error rate and iterations of the proved decoder over Eb/N0, by criterion;
+and antennas.svg from antennas.csv: frame error rate with one antenna and with two.
 
 Each frame error rate has its 95 % interval (Wilson); a point of fewer than 50 frame errors is hollow. Criteria 2 and 4
 have one curve: it stops if they differ anywhere.
-The data: bench/run curves > docs/curves.csv. Standard library only.
+The data: bench/run curves > docs/curves.csv, bench/run antennas > docs/antennas.csv. Standard library only.
 """
 
 import csv
@@ -12,29 +13,52 @@ import textwrap
 from pathlib import Path
 
 HERE = Path(__file__).parent
-# for each criterion its name, its colour, and how far its error rates stand beside their Eb/N0, in pixels
-NAMES = {
-    "0": ("criterion 0: never", "#8a8a8a", -7.5),
-    "1": ("criterion 1: G-matrix", "#0b6fb8", -2.5),
-    "2": ("criteria 2 and 4: least size", "#e8862e", 2.5),
-    "3": ("criterion 3: steady marks", "#1d7a3e", 7.5),
+# for each criterion and operand its name, its colour, and how far its error rates stand beside their Eb/N0, in pixels
+CRITERIA = {
+    ("0", "0"): ("criterion 0: never", "#8a8a8a", -7.5),
+    ("1", "0"): ("criterion 1: G-matrix", "#0b6fb8", -2.5),
+    ("2", "32"): ("criteria 2 and 4: least size, operand 32", "#e8862e", 2.5),
+    ("3", "2"): ("criterion 3: steady marks, operand 2", "#1d7a3e", 7.5),
 }
-NOTES = [
-    "Frame error rate: the bar is the 95 % interval (Wilson); a hollow point has fewer than 50 frame errors.",
+# the same for the energies of both antennas and the second one's factor, by columns of the legend
+ANTENNAS = [
+    {
+        ("1", "0", "1"): ("one antenna", "#444444", -5),
+        ("0.5", "0.5", "1"): ("two antennas, each with half of the energy", "#0b6fb8", 0),
+        ("0.8", "0.2", "1"): ("two antennas, with 4/5 and 1/5 of the energy", "#e8862e", 5),
+    },
+    {
+        ("1", "1", "1"): ("a second antenna added, as strong as the first", "#1d7a3e", 0),
+        ("1", "0.25", "1"): ("a second antenna added, 6 dB weaker", "#8e44ad", 0),
+    },
+    {
+        ("1", "0.25", "2"): ("6 dB weaker, with 2 times its exact factor", "#c2185b", 0),
+        ("1", "0.25", "4"): ("6 dB weaker, with 4 times its exact factor", "#7a5230", 0),
+    },
+]
+BAR_NOTE = "Frame error rate: the bar is the 95 % interval (Wilson); a hollow point has fewer than 50 frame errors."
+CRITERIA_NOTES = [
+    BAR_NOTE,
     "At each Eb/N0 the curves stand side by side, since error rates nearly coincide; those of 2 and 4 do entirely.",
 ]
+ANTENNA_NOTES = [
+    BAR_NOTE,
+    "Eb/N0 is that of all antennas together; where a second one is added, that of the first; under fading the mean.",
+    "The curves of the first column stand side by side, since on the steady channel their error rates coincide.",
+    "2 times is the first's factor; so is 4 times, where the second is amplified until it is as strong as the first.",
+]
 WIDTH, HEIGHT, TOP, BOTTOM = 500, 420, 56, 60
+RATES = [(1, "1"), (0.1, "0.1"), (0.01, "0.01"), (1e-3, "0.001"), (1e-4, "0.0001")]
 FEW = 50
 
 
-def read():
-    """For each criterion its points: Eb/N0, blocks, frame errors, iterations; and its operand."""
-    curves, operands = {}, {}
-    for row in csv.DictReader((HERE / "curves.csv").open()):
+def read(name, *columns):
+    """For each curve, named by its values in some columns, its points: Eb/N0, blocks, frame errors, iterations."""
+    curves = {}
+    for row in csv.DictReader((HERE / name).open()):
         point = (float(row["db"]), int(row["blocks"]), int(row["frame_errors"]), int(row["iterations"]))
-        curves.setdefault(row["criterion"], []).append(point)
-        operands[row["criterion"]] = row["operand"]
-    return curves, operands
+        curves.setdefault(tuple(row[column] for column in columns), []).append(point)
+    return curves
 
 
 def wilson(wrong, blocks, z=1.96):
@@ -106,37 +130,67 @@ def wrapped(element):
     return "\n".join(lines) + end + text
 
 
-def main():
-    curves, operands = read()
-    assert curves.pop("4") == curves["2"] and operands["4"] == operands["2"], "criteria 2 and 4 differ"
-    ratios = sorted({point[0] for points in curves.values() for point in points})
-    x_range, x_ticks = (ratios[0] - 0.1, ratios[-1] + 0.1), [db for db in ratios if db * 2 == round(db * 2)]
-    errors = Panel(70, "Frame error rate", x_range, (1e-4, 1), True)
-    errors.axes(x_ticks, [(1, "1"), (0.1, "0.1"), (0.01, "0.01"), (1e-3, "0.001"), (1e-4, "0.0001")])
-    iterations = Panel(70 + WIDTH + 20, "Iterations on average (limit 50)", x_range, (0, 50), False)
-    iterations.axes(x_ticks, [(value, str(value)) for value in range(0, 51, 10)])
-    legend = []
-    for place, (criterion, points) in enumerate(sorted(curves.items())):
-        name, colour, beside = NAMES[criterion]
-        rates = [(db, wrong / blocks, wilson(wrong, blocks), wrong < FEW)
-                 for db, blocks, wrong, _ in points if wrong > 0]
-        errors.curve(rates, colour, beside)
-        iterations.curve([(db, total / blocks, None, False) for db, blocks, _, total in points], colour)
-        operand = f", operand {operands[criterion]}" if operands[criterion] != "0" else ""
-        x, y = 36 + 260 * place, HEIGHT + 8
-        legend += [
-            f'<rect x="{x}" y="{y}" width="18" height="4" fill="{colour}"/>',
-            f'<text x="{x + 24}" y="{y + 6}" font-size="11" fill="#222">{name}{operand}</text>']
-    for place, note in enumerate(NOTES):
-        legend.append(f'<text x="36" y="{HEIGHT + 36 + 16 * place}" font-size="11" fill="#222">{note}</text>')
-    body = "\n".join(wrapped(element) for element in errors.parts + iterations.parts + legend)
-    width, height = 2 * WIDTH + 120, HEIGHT + 66
-    (HERE / "curves.svg").write_text(
+def rates(points):
+    """Frame error rates as Panel.curve takes them."""
+    return [(db, wrong / blocks, wilson(wrong, blocks), wrong < FEW) for db, blocks, wrong, _ in points if wrong > 0]
+
+
+def legend(columns, pitch, notes):
+    """Names with their colours, in columns, and notes below them; and the height of the picture."""
+    parts = []
+    for place, column in enumerate(columns):
+        for row, (name, colour, _) in enumerate(column):
+            x, y = 36 + pitch * place, HEIGHT + 8 + 16 * row
+            parts += [
+                f'<rect x="{x}" y="{y}" width="18" height="4" fill="{colour}"/>',
+                f'<text x="{x + 24}" y="{y + 6}" font-size="11" fill="#222">{name}</text>']
+    below = HEIGHT + 20 + 16 * max(len(column) for column in columns)
+    for place, note in enumerate(notes):
+        parts.append(f'<text x="36" y="{below + 16 * place}" font-size="11" fill="#222">{note}</text>')
+    return parts, below + 16 * len(notes) - 2
+
+
+def write(name, panels, legend_parts, height):
+    parts = [part for panel in panels for part in panel.parts] + legend_parts
+    body = "\n".join(wrapped(element) for element in parts)
+    width = 2 * WIDTH + 120
+    (HERE / name).write_text(
         f'<svg xmlns="http://www.w3.org/2000/svg" viewBox="0 0 {width} {height}" width="{width}" '
         f'height="{height}" font-family="sans-serif">\n'
         f'<rect width="100%" height="100%" fill="white"/>\n{body}\n</svg>\n'
     )
 
 
+def draw_criteria():
+    curves = read("curves.csv", "criterion", "operand")
+    assert curves.pop(("4", "32")) == curves["2", "32"], "criteria 2 and 4 differ"
+    ratios = sorted({point[0] for points in curves.values() for point in points})
+    x_range, x_ticks = (ratios[0] - 0.1, ratios[-1] + 0.1), [db for db in ratios if db * 2 == round(db * 2)]
+    errors = Panel(70, "Frame error rate", x_range, (1e-4, 1), True)
+    errors.axes(x_ticks, RATES)
+    iterations = Panel(70 + WIDTH + 20, "Iterations on average (limit 50)", x_range, (0, 50), False)
+    iterations.axes(x_ticks, [(value, str(value)) for value in range(0, 51, 10)])
+    for key, points in sorted(curves.items()):
+        _, colour, beside = CRITERIA[key]
+        errors.curve(rates(points), colour, beside)
+        iterations.curve([(db, total / blocks, None, False) for db, blocks, _, total in points], colour)
+    write("curves.svg", [errors, iterations], *legend([[name] for name in CRITERIA.values()], 260, CRITERIA_NOTES))
+
+
+def draw_antennas():
+    curves = read("antennas.csv", "channel", "first", "second", "second_factor")
+    names = {key: name for column in ANTENNAS for key, name in column.items()}
+    steady = Panel(70, "Frame error rate, steady channel", (-2.2, 4.2), (1e-3, 1), True)
+    steady.axes(range(-2, 5), RATES[:4])
+    fading = Panel(70 + WIDTH + 20, "Frame error rate, Rayleigh fading", (-0.8, 16.8), (1e-3, 1), True)
+    fading.axes(range(0, 17, 2), RATES[:4])
+    for (channel, *key), points in curves.items():
+        _, colour, beside = names[tuple(key)]
+        panel = {"steady": steady, "fading": fading}[channel]
+        panel.curve(rates(points), colour, beside)
+    write("antennas.svg", [steady, fading], *legend([column.values() for column in ANTENNAS], 360, ANTENNA_NOTES))
+
+
 if __name__ == "__main__":
-    main()
+    draw_criteria()
+    draw_antennas()

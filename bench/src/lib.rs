@@ -1,6 +1,7 @@
-//! What the benchmark and the curves share: blocks to decode, the proved decoder behind its C interface, and the
-//! others.
+//! What the benchmark and the curves share: blocks to decode, the proved decoder and fronts behind
+//! their C interface, and the others.
 pub mod blocks;
+pub mod fronts;
 pub mod noise;
 pub mod plain;
 
@@ -227,4 +228,11 @@ pub fn noisy(m: usize, db: f64, random: &mut Random) -> Block {
         mask: noise::mask(m, 1 << (m - 1), 2.0),
         llr: noise::llrs(1 << m, db, 16.0, ceiling, random),
     }
+}
+
+/// The number of blocks that the command line asks for, or else `usual`.
+pub fn blocks_asked_for(usual: u32) -> u32 {
+    std::env::args()
+        .nth(1)
+        .map_or(usual, |count| count.parse().expect("a number of blocks"))
 }

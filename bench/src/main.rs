@@ -1,5 +1,6 @@
-//! The proved decoder against others, side by side in one run: each round runs every decoder once, and a figure is
-//! the best or the median of all rounds.
+//! The proved decoder and fronts against others, side by side in one run: each round runs every one
+//! of them once, and a figure is the best or the median of all rounds.
+use bench::fronts::{self, Branch};
 use bench::noise::{self, Random};
 use bench::{baseline, blocks, lent, noisy, plain, proved, proved_for_radio, Block, Lent};
 use std::time::Instant;
@@ -214,6 +215,59 @@ fn radio_table(random: &mut Random) {
     }
 }
 
+/// What one antenna or several receive of 50 (1024,512) blocks at 2.5 dB. Each has the same part of
+/// the energy, so that the LLRs of a block are as noisy with two as with one.
+fn received(antennas: u32, random: &mut Random) -> Vec<Vec<Branch>> {
+    let amplitude = f64::from(antennas).recip().sqrt();
+    let mut branch = |_| noise::branch(1024, amplitude, noise::variance(2.5), 16.0, random);
+    (0..50)
+        .map(|_| (0..antennas).map(&mut branch).collect())
+        .collect()
+}
+
+/// The proved front and the baseline's leave the same LLRs.
+fn compare_fronts(blocks: &[Vec<Branch>]) {
+    let (mut one, mut other) = (vec![0; 1024], vec![0; 1024]);
+    for branches in blocks {
+        fronts::proved(10, 2047, branches, &mut one);
+        fronts::baseline(10, 2047, branches, &mut other);
+        assert!(one == other, "the fronts disagree");
+    }
+}
+
+/// The fronts for one antenna and for two, beside plain loops in C.
+fn front_table(random: &mut Random) {
+    println!(
+        "\nFronts, (1024,512) blocks at 2.5 dB (ns a block, best of 400 rounds of 50 blocks): \
+         proved, baseline, ratio"
+    );
+    let received = [received(1, random), received(2, random)];
+    received.iter().for_each(|blocks| compare_fronts(blocks));
+    let mut llr = vec![0; 1024];
+    let mut best = [[f64::MAX; 2]; 2];
+    for _ in 0..400 {
+        for (blocks, best) in received.iter().zip(&mut best) {
+            for (front, best) in [fronts::proved, fronts::baseline].into_iter().zip(best) {
+                let begin = Instant::now();
+                for branches in blocks {
+                    front(10, 2047, branches, &mut llr);
+                }
+                *best = best.min(begin.elapsed().as_nanos() as f64 / blocks.len() as f64);
+            }
+        }
+    }
+    let [gaussian, two] = best;
+    for (name, [proved, baseline]) in [
+        ("vedrogne_front_gaussian", gaussian),
+        ("vedrogne_front_two", two),
+    ] {
+        let ratio = proved / baseline;
+        println!("{name:24} {proved:8.0} {baseline:8.0} {ratio:6.2}");
+    }
+    let [proved, baseline] = [two[0] / gaussian[0], two[1] / gaussian[1]];
+    println!("two to gaussian: proved {proved:.2}, baseline {baseline:.2}");
+}
+
 fn main() {
     let mut random = Random(2026);
     iteration_table(&mut random);
@@ -221,4 +275,5 @@ fn main() {
     block_table(&mut random);
     criteria_table(&mut random);
     radio_table(&mut random);
+    front_table(&mut random);
 }

@@ -1,5 +1,6 @@
-//! Blocks to decode: a mask, and LLRs of the all-zero message after a Gaussian channel. How well a block is decoded
-//! doesn't depend on the message.
+//! Blocks to decode: a mask, and LLRs or samples of the all-zero message after a Gaussian channel.
+//! How well a block is decoded doesn't depend on the message.
+use crate::fronts::Branch;
 
 /// A small generator of random numbers (splitmix64).
 pub struct Random(pub u64);
@@ -21,6 +22,13 @@ impl Random {
     /// A normal variate, by Box and Muller.
     pub fn normal(&mut self) -> f64 {
         (-2.0 * self.unit().ln()).sqrt() * (2.0 * std::f64::consts::PI * self.unit()).cos()
+    }
+
+    /// A Rayleigh variate: above 0, its square 1 on average.
+    pub fn rayleigh(&mut self) -> f64 {
+        // below 1, so that its logarithm isn't 0
+        let unit = ((self.word() >> 12) as f64 + 0.5) / (1u64 << 52) as f64;
+        (-unit.ln()).sqrt()
     }
 }
 
@@ -68,10 +76,15 @@ pub fn mask(m: usize, information: usize, design_db: f64) -> Vec<u8> {
     mask
 }
 
+/// The variance of the noise at a ratio Eb/N0, for a code of rate one half and amplitude 1.
+pub fn variance(db: f64) -> f64 {
+    10f64.powf(-db / 10.0)
+}
+
 /// LLRs at a ratio Eb/N0, for a code of rate one half: the exact ones, 2/σ² times the sample, times `times`, as whole
 /// numbers.
 pub fn llrs(n: usize, db: f64, times: f64, ceiling: i16, random: &mut Random) -> Vec<i16> {
-    let variance = 10f64.powf(-db / 10.0);
+    let variance = variance(db);
     let top = f64::from(ceiling);
     (0..n)
         .map(|_| {
@@ -79,4 +92,16 @@ pub fn llrs(n: usize, db: f64, times: f64, ceiling: i16, random: &mut Random) ->
             (times * 2.0 / variance * sample).round().clamp(-top, top) as i16
         })
         .collect()
+}
+
+/// What an antenna receives of a signal of this amplitude in noise of this variance. The factor is
+/// `times` the exact one, which is twice the amplitude over the variance.
+pub fn branch(n: usize, amplitude: f64, variance: f64, times: f64, random: &mut Random) -> Branch {
+    let deviation = variance.sqrt();
+    Branch {
+        factor: (times * 2.0 * amplitude / variance) as f32,
+        samples: (0..n)
+            .map(|_| (amplitude + deviation * random.normal()) as f32)
+            .collect(),
+    }
 }

@@ -5,17 +5,10 @@
 #include <stdio.h>
 #include <string.h>
 
+#include "shared.h"
 #include "vedrogne.h"
 
-enum { M = 6, N = 64, K = 32, CEILING = 127 };
-
-/* A (64,32) code: 1 frozen, 0 information. */
-static const uint8_t mask[N] = {
-    1, 1, 1, 1, 1, 1, 1, 0, 1, 1, 1, 0, 1, 0, 0, 0,
-    1, 1, 1, 0, 1, 0, 0, 0, 1, 0, 1, 0, 1, 0, 0, 0,
-    1, 1, 1, 0, 1, 0, 1, 0, 1, 1, 1, 0, 1, 0, 0, 0,
-    1, 1, 1, 0, 1, 0, 0, 0, 1, 0, 0, 0, 0, 0, 0, 0
-};
+enum { CEILING = 127 };
 
 /* What a call of the decoder leaves. */
 struct decoded {
@@ -23,30 +16,6 @@ struct decoded {
     uint8_t mark[N], coded_mark[N];
     uint32_t iterations, reason;
 };
-
-/* The next of a fixed run of numbers, from 0 to 65535. */
-static int32_t next_number(uint32_t *state)
-{
-    *state = *state * 1664525u + 1013904223u;
-    return (int32_t)(*state >> 16);
-}
-
-/*
- * What the receiver hears: 1 for a coded 0, -1 for a coded 1, and noise. The noise is a sum of six numbers from -1/2
- * to 1/2, so its standard deviation is about 0.71. All of it is counted in whole 65536ths, so that the samples are the
- * same on every machine.
- */
-static void channel(const uint8_t *block, float *samples)
-{
-    uint32_t state = 1;
-    for (int i = 0; i < N; i++) {
-        int32_t sum = block[i] == 0 ? 65536 : -65536;
-        for (int term = 0; term < 6; term++) {
-            sum += next_number(&state) - 32768;
-        }
-        samples[i] = (float)sum / 65536.0f;
-    }
-}
 
 static int wrong_signs(const uint8_t *block, const int16_t *llr)
 {
@@ -95,16 +64,14 @@ int main(void)
     static float samples[N];
     static int16_t llr[N];
     static struct decoded decoded, handset, desk;
-    uint32_t state = 7;
+    uint32_t message_state = 7, noise_state = 1;
 
-    for (int i = 0; i < K; i++) {
-        message[i] = (uint8_t)(next_number(&state) % 2);
-    }
+    next_message(&message_state, message);
     print_bits("message ", message);
     if (refused("encode", vedrogne_encode(M, mask, N, message, K, block, N))) {
         return 1;
     }
-    channel(block, samples);
+    channel(&noise_state, 8, 8, block, samples);
     if (refused("front", vedrogne_front_gaussian(M, CEILING, 8.0f, samples, N, llr, N))) {
         return 1;
     }

@@ -2,7 +2,7 @@
 //! (1024,512) blocks at 2.5 dB under criterion 1 with a limit of 50. Prints the frame error rate and the iterations
 //! on average.
 use bench::noise::{self, Random};
-use bench::{lent, proved, Block};
+use bench::{blocks_asked_for, lent, proved, Block};
 
 struct Choice {
     name: &'static str,
@@ -51,9 +51,7 @@ fn try_out(choice: &Choice, mask: &[u8], blocks: u32) {
 }
 
 fn main() {
-    let blocks = std::env::args()
-        .nth(1)
-        .map_or(4000, |count| count.parse().expect("a number of blocks"));
+    let blocks = blocks_asked_for(4000);
     let mask = noise::mask(10, 512, 2.0);
     let natural: Vec<u8> = (0..1024u16)
         .map(|i| mask[usize::from(i.reverse_bits() >> 6)])

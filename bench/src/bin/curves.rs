@@ -1,7 +1,7 @@
 //! Frame error rate and iterations of the proved decoder over the signal-to-noise ratio, for each criterion, as
 //! comma-separated values. All criteria decode the same (1024,512) blocks; the limit is 50.
 use bench::noise::{self, Random};
-use bench::{lent, proved, Block};
+use bench::{blocks_asked_for, lent, proved, Block};
 
 /// The criteria with their operands.
 const CRITERIA: [(u32, u32); 5] = [(0, 0), (1, 0), (2, 32), (3, 2), (4, 32)];
@@ -38,9 +38,7 @@ fn point(db: f64, most: u32, mask: &[u8], random: &mut Random) -> (u32, [Count; 
 }
 
 fn main() {
-    let most = std::env::args()
-        .nth(1)
-        .map_or(20_000, |count| count.parse().expect("a number of blocks"));
+    let most = blocks_asked_for(20_000);
     let mask = noise::mask(10, 512, 2.0);
     let mut random = Random(2026);
     println!("db,criterion,operand,blocks,frame_errors,iterations");
