@@ -1,7 +1,9 @@
-// One message the whole way, over 64 positions: coder, samples with six errors, front, decoder, read-out.
+// One message the whole way, over 64 positions: coder, samples with six errors, front, decoder, read-out; then the same
+// block as two antennas receive it, each with its own errors.
 ghost use Prim.Native.Nat.{_≤_};
 ghost use lib.ListN.{length};
 use crate::say;
+use antennas::Receiver;
 use channel::Channel;
 use polar::Code;
 use settings::Settings;
@@ -21,18 +23,23 @@ fn fill_bits(digits: &[u8], bits: &mut [u8])
     }
 }
 
-// 1 for a bit of 0 and -1 for a bit of 1. At 5, 16, 27, 38, 49 and 60 the sign is wrong and the size a quarter.
-fn sample(i: usize, bit: u8) -> f32 {
-    let size = if i % 11 == 5 { -0.25f32 } else { 1.0f32 };
+// The amplitude for a bit of 0, and minus the amplitude for a bit of 1. At the first error and at every eleventh
+// position from there on the sign is wrong and the size a quarter.
+fn sample(i: usize, bit: u8, amplitude: f32, error: usize) -> f32 {
+    let size = if i % 11 == error {
+        -0.25f32 * amplitude
+    } else {
+        amplitude
+    };
     if bit == 0 { size } else { -size }
 }
 
-fn fill_samples(block: &[u8], samples: &mut [f32])
+fn fill_samples(block: &[u8], amplitude: f32, error: usize, samples: &mut [f32])
     requires { ⌜ length (now samples) ≤ length (now block) ⌝ }
 {
     let mut i = 0;
     while i < samples.len() {
-        samples[i] = sample(i, block[i]);
+        samples[i] = sample(i, block[i], amplitude, error);
         i += 1;
     }
 }
@@ -58,21 +65,30 @@ fn code(mask: &[u8], message: &[u8], block: &mut [u8]) {
     console::text(b"\n");
 }
 
-// The samples become LLRs.
-fn front(samples: &[f32], llr: &mut [i16]) {
+// The block as one antenna receives it.
+fn front(block: &[u8; 65], llr: &mut [i16]) {
+    let mut samples = [0.0f32; 64];
+    fill_samples(block, 1.0, 5, &mut samples);
     console::text(b"link gaussian 8 m=6 C=127");
-    console::answer(channel::front(6, 127, Channel::Gaussian(8.0), samples, llr));
+    console::answer(channel::front(6, 127, Channel::Gaussian(8.0), &samples, llr));
     console::values(b" llr", llr);
     console::text(b"\n");
 }
 
-// The block is sent and received: the LLRs are written.
-fn send(mask: &[u8], message: &[u8], llr: &mut [i16]) {
-    let mut block = [9u8; 65];
-    code(mask, message, &mut block);
-    let mut samples = [0.0f32; 64];
-    fill_samples(&block, &mut samples);
-    front(&samples, llr);
+// The block as two antennas receive it, the second three quarters as strong.
+fn front_two(block: &[u8; 65], llr: &mut [i16]) {
+    let mut first = [0.0f32; 64];
+    fill_samples(block, 1.0, 5, &mut first);
+    let mut second = [0.0f32; 64];
+    fill_samples(block, 0.75, 2, &mut second);
+    let receiver = Receiver {
+        first: 8.0,
+        second: 6.0,
+    };
+    console::text(b"link two 8 6 m=6 C=127");
+    console::answer(antennas::front_two(6, 127, receiver, &first, &second, llr));
+    console::values(b" llr", llr);
+    console::text(b"\n");
 }
 
 // What the decoder makes of the LLRs: its answer, and its marks.
@@ -138,7 +154,12 @@ pub fn link() {
     );
     let mut message = [0u8; 32];
     fill_bits(b"11000110001100011000110001100011", &mut message);
+    let mut block = [9u8; 65];
+    code(&mask, &message, &mut block);
     let mut llr = [9i16; 65];
-    send(&mask, &message, &mut llr);
+    front(&block, &mut llr);
     criteria(&mask, &message, &llr);
+    let mut both = [9i16; 65];
+    front_two(&block, &mut both);
+    receive(40, 1, 0, &mask, &message, &both);
 }

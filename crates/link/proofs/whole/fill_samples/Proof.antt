@@ -8,10 +8,10 @@ use Rattle.link.proofs.whole.fill_samples.Statement.{statement}
 use Rattle.link.proofs.whole.fill_samples.Tie as tie
 
 abbrev Inv-loop : tie.InvT-loop
-Inv-loop block samples₀ i₀ samples i = (i ≤ length samples) × (length samples ≡ length samples₀)
+Inv-loop block amplitude error samples₀ i₀ samples i = (i ≤ length samples) × (length samples ≡ length samples₀)
 
 abbrev μ-loop : tie.MeasureT-loop
-μ-loop block samples₀ i₀ samples i = length samples₀ - i
+μ-loop block amplitude error samples₀ i₀ samples i = length samples₀ - i
 
 loop-holds : tie.Need-loop-holds Inv-loop μ-loop
 loop-holds c = search needs
