@@ -12,7 +12,7 @@ use borrow.Author.Tests.{lt-ltb, le-ltb}
 use Rattle.channel.specs.Front.{isFinite, isAboveZero}
 use Rattle.channel.specs.Private.{bySign}
 
-pub finite-is : (x : Float) → isFinite x ≡ cond (lt (inf true) x) (lt x (inf false)) false
+pub finite-is : (x : Float) → isFinite x ≡ lt (inf true) x && lt x (inf false)
 unfolding lt isFinite
 finite-is nan = refl
 finite-is (inf true) = refl

@@ -1,6 +1,5 @@
 -- Samples that are finite: each of the first n, and no NaN in their products with a factor.
 use Prim.Native.Nat.{ℕ, zero, suc, _+_, _*_, _^_, _<_}
-use mathlib.Core.Path.{_≡_, refl, subst}
 use mathlib.Core.Bool.{Bool, true, false, not, cond}
 use mathlib.Core.List.{List}
 use lib.Dec.{T, ltb}
@@ -15,14 +14,6 @@ pub sample-finite : (n i : ℕ) (samples : List Float) → i < n → T (allFinit
 sample-finite n i samples h t =
     passes (isFinite (getD samples i nan))
     (every-at n i (λ j. isFinite (getD samples j nan)) (is-true (allFinite n samples) t) h)
-
-pub one-not-finite : (n i : ℕ) (samples : List Float) → i < n → isFinite (getD samples i nan) ≡ false
-    → false ≡ allFinite n samples
-one-not-finite n i samples h e = by-test (allFinite n samples) (sample-finite n i samples h)
-  where
-    by-test : (b : Bool) → (T b → T (isFinite (getD samples i nan))) → false ≡ b
-    by-test false f = refl
-    by-test true f = absurd (subst T e (f tt))
 
 -- ---- no NaN
 pub either-number : (b : Bool) (x y : Float) → T (not (isNan x)) → T (not (isNan y)) → T (not (isNan (cond b x y)))

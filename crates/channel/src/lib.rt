@@ -39,7 +39,7 @@ fn finite(x: f32) -> bool
     ensures { λ r. ⌜ r ≡ isFinite x ⌝ }
 {
     let infinity = f32::from_bits(0x7f80_0000);
-    if -infinity < x { x < infinity } else { false }
+    calls::both(-infinity < x, x < infinity)
 }
 
 // Finite and above zero, as a factor or a weight has to be.
@@ -63,19 +63,18 @@ fn usable(channel: Channel) -> bool
     }
 }
 
-// Whether the first n samples are finite.
+// Whether the first n samples are finite. It looks at all of them, so that the loop has no branch and is vectorised.
 pub fn all_finite(samples: &[f32], n: usize) -> bool
     requires { ⌜ n ≤ length (now samples) ⌝ }
     ensures { λ r. ⌜ r ≡ allFinite n (now (samples .entry)) ⌝ }
 {
+    let mut all = true;
     let mut i = 0;
     while i < n {
-        if !finite(samples[i]) {
-            return false;
-        }
+        all = calls::both(all, finite(samples[i]));
         i += 1;
     }
-    true
+    all
 }
 
 // The size of a float, given by its exponent field and its digits, as a whole number of at most the ceiling: the

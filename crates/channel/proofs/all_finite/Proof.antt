@@ -1,21 +1,20 @@
 use Prim.Native.Nat.{_≤_, _-_, zero-le}
-use mathlib.Core.Path.{_≡_, refl, sym, _∙_}
-use mathlib.Core.Bool.{true}
-use native.Mathlib.Numerals.{add-one}
+use mathlib.Core.Path.{_≡_, refl, _∙_}
 use native.Mathlib.Omega.{arith}
 use denote.Ref.{now}
+use lib.ListN.{getD}
+use lib.Ieee.{nan}
 use borrow.Author.Needs.{needs}
-use borrow.Author.Tests.{not-true, not-false}
-use Rattle.channel.specs.Front.{allFinite}
-use Rattle.channel.proofs.Samples.{one-not-finite}
+use Rattle.calls.specs.EveryLaws.{every-next}
+use Rattle.channel.specs.Front.{isFinite, allFinite}
 use Rattle.channel.proofs.all_finite.Statement.{statement}
 use Rattle.channel.proofs.all_finite.Tie as tie
 
 abbrev Inv-loop : tie.InvT-loop
-Inv-loop samples n i₀ i = (i ≤ n) × (allFinite i samples ≡ true)
+Inv-loop samples n all₀ i₀ all i = (i ≤ n) × (all ≡ allFinite i samples)
 
 abbrev μ-loop : tie.MeasureT-loop
-μ-loop samples n i₀ i = n - i
+μ-loop samples n all₀ i₀ all i = n - i
 
 loop-holds : tie.Need-loop-holds Inv-loop μ-loop
 loop-holds c = (zero-le, refl)
@@ -29,12 +28,8 @@ shared-slice-read-finite c = omega arith
 finite-requires : tie.Need-finite-requires Inv-loop μ-loop
 finite-requires c κs = search needs
 
-returns : tie.Need-returns Inv-loop μ-loop
-returns c =
-    let here = c .before .before .before .before in
-    let a = here .before .before .args in
-    one-not-finite (a .n) (here .loop .i) (now (a .samples)) (omega arith)
-    (sym (c .before .finite .ensures) ∙ not-true (c .before .finite .result) (c .if1 .taken))
+both-requires : tie.Need-both-requires Inv-loop μ-loop
+both-requires c κs = search needs
 
 add-i : tie.Need-add-i Inv-loop μ-loop
 add-i c = omega arith
@@ -45,13 +40,17 @@ loop-less c = omega arith
 loop-again : tie.Need-loop-again Inv-loop μ-loop
 loop-again c =
     let here = c .before .before .before .before in
-    let finite = sym (c .before .finite .ensures) ∙ not-false (c .before .finite .result) (c .if1 .left) in
-    (omega arith, rw (add-one (here .loop .i), here .loop .inv .1) finite)
+    let samples = now (here .before .before .args .samples) in (
+      omega arith,
+      c .both .ensures
+          ∙ every-next (here .loop .i) (λ j. isFinite (getD samples j nan)) (here .loop .inv .1)
+          (c .before .finite .ensures),
+    )
 
-returns-2 : tie.Need-returns-2 Inv-loop μ-loop
-returns-2 c =
+returns : tie.Need-returns Inv-loop μ-loop
+returns c =
     let end : c .before .loop .i ≡ c .before .before .before .args .n = omega arith in
-    sym (rw end at (c .before .loop .inv .1))
+    rw end at (c .before .loop .inv .1)
 
 pub all-finite-spec : {M : Type 1} → statement M
 all-finite-spec =
@@ -63,8 +62,8 @@ all-finite-spec =
     mul-finite
     shared-slice-read-finite
     finite-requires
-    returns
+    both-requires
     add-i
     loop-less
     loop-again
-    returns-2)
+    returns)
