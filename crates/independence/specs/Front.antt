@@ -1,6 +1,6 @@
 -- A front, as far as the message's part in the outcome goes: samples of some kind become LLRs in a lent slice, or are
--- refused. Document 01's takes one list of floats (`channelFront`), that of 2026-06 two (`antennasFront`). Definitions
--- only.
+-- refused. Document 01's takes one list of floats (`channelFront`), that of 2026-06 two (`antennasFront`).
+-- Definitions only.
 use Prim.Native.Nat.{ℕ, _^_, _<_}
 use mathlib.Core.Path.{_≡_}
 use mathlib.Core.Bool.{Bool}
