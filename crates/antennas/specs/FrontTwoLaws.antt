@@ -3,29 +3,25 @@
 -- products give 0, also where they are too large for the format.
 use Prim.Native.Nat.{ℕ, zero, suc, _^_, _≤_, _<_}
 use mathlib.Core.Path.{_≡_, refl, sym, ap, ap₂, _∙_, subst}
-use mathlib.Core.Bool.{Bool, true, false, not, _&&_, and-comm}
+use mathlib.Core.Bool.{Bool, true, false, not, and-comm}
 use mathlib.Core.List.{List}
 use native.Mathlib.Nat.{le-refl}
 use lib.IntN.{ℤ, pos, negsuc, negℤ, natAbs}
 use lib.Dec.{T, leb}
 use lib.ListN.{length, getD}
 use lib.Ieee.{Float, nan, inf, fin, binary32, neg, add, mul}
-use borrow.Author.Tests.{leb-true}
 use Rattle.calls.specs.LentMemory.{unlessRefused}
 use Rattle.calls.specs.LentMemoryLaws.{length-overwrite, overwrite-same}
-use Rattle.calls.specs.NumberLaws.{and-passed}
 use Rattle.calls.specs.Signs.{isNegative, flipped}
 use Rattle.channel.specs.Front.{quantised, isAboveZero, allFinite}
 use Rattle.channel.specs.FlippedSamples.{flippedSample, flippedSamples}
-use Rattle.channel.specs.FrontLaws.{quantised-bound, mul-neg, sample-flipped, all-flipped, tests-passed}
+use Rattle.channel.specs.FrontLaws.{quantised-bound, mul-neg, sample-flipped, all-flipped}
 use Rattle.antennas.specs.declared.Receiver.{Receiver}
 use Rattle.antennas.specs.FrontTwo.{
   largestProduct,
   cutTo,
   llrOfTwo,
   Branches,
-  areUsable,
-  areFinite,
   llrAt,
   frontTwoNumber,
   frontTwoLlrs,
@@ -138,13 +134,3 @@ pub llr-at-flipped : (n C : ℕ) (receiver : Receiver) (bit : ℕ → Bool) (sam
 llr-at-flipped n C receiver bit samples i h =
     ap₂ (llrOfTwo C receiver) (sample-flipped n bit (samples .first) i h) (sample-flipped n bit (samples .second) i h)
     ∙ llr-of-two-flipped C receiver (bit i) (getD (samples .first) i nan) (getD (samples .second) i nan)
-
--- ---- an accepted call has room for the LLRs
-
-pub front-two-room : (m C : ℕ) (receiver : Receiver) (samples : Branches) (room : ℕ)
-    → frontTwoNumber m C receiver samples room ≡ 0 → 2 ^ m ≤ room
-front-two-room m C receiver samples room ok =
-    let n = 2 ^ m in
-    let both = leb n (length (samples .first)) && leb n (length (samples .second)) in
-    let passed = tests-passed m C (both && leb n room) (areUsable receiver) (areFinite n samples) ok in
-    leb-true n room (and-passed both (leb n room) (passed .long-enough) .1)

@@ -3,7 +3,7 @@
 -- flipped at some places give the same number and the LLRs flipped at those places.
 use Prim.Native.Nat.{ℕ, zero, suc, _+_, _*_, _/_, _^_, _≤_, _<_, zero-le}
 use mathlib.Core.Path.{_≡_, refl, sym, ap, ap₂, _∙_}
-use mathlib.Core.Bool.{Bool, true, false, not, _&&_, cond}
+use mathlib.Core.Bool.{Bool, true, false, not, cond}
 use mathlib.Core.List.{List, [], _∷_}
 use native.Mathlib.Nat.{
   le-refl,
@@ -29,7 +29,7 @@ use lib.Ieee.Nearest.{div-same}
 use borrow.Author.Tests.{leb-true, leb-false, le-leb, lt-leb}
 use Rattle.calls.specs.Bounds.{largestM, largestCeiling}
 use Rattle.calls.specs.Numbers.{between}
-use Rattle.calls.specs.NumberLaws.{check-passed, and-passed, between-passed}
+use Rattle.calls.specs.NumberLaws.{check-passed, between-passed}
 use Rattle.calls.specs.LentMemory.{overwrite, unlessRefused}
 use Rattle.calls.specs.Signs.{flipped}
 use Rattle.calls.specs.SignLaws.{size-flipped, flipped-xor}
@@ -43,7 +43,6 @@ use Rattle.channel.specs.Front.{
   quantised,
   llrOf,
   isFinite,
-  isUsable,
   allFinite,
   frontTests,
   frontNumber,
@@ -76,15 +75,6 @@ tests-passed m C long usable finite e =
       all-usable = eleven .0;
       all-finite = check-passed finite 11 0 (eleven .1) .0;
     }
-
--- an accepted call has room for the LLRs
-pub front-room : (m C : ℕ) (channel : Channel) (samples : List Float) (room : ℕ)
-    → frontNumber m C channel samples room ≡ 0 → 2 ^ m ≤ room
-front-room m C channel samples room ok =
-    let n = 2 ^ m in
-    let long = leb n (length samples) in
-    let passed = tests-passed m C (long && leb n room) (isUsable channel) (allFinite n samples) ok in
-    leb-true n room (and-passed long (leb n room) (passed .long-enough) .1)
 
 -- ---- the whole number of a size
 

@@ -2,24 +2,29 @@
 -- samples leave its number, and turn the sign of each LLR (`TurnsSigns`).
 use Prim.Native.Nat.{ℕ, _^_, _≤_, _<_}
 use mathlib.Core.Path.{_≡_, refl, sym, ap, _∙_}
-use mathlib.Core.Bool.{Bool}
+use mathlib.Core.Bool.{Bool, _&&_}
 use mathlib.Core.List.{List}
+use lib.Dec.{leb}
 use lib.IntN.{ℤ, pos}
 use lib.ListN.{length, getD}
-use lib.Ieee.{nan}
+use lib.Ieee.{Float, nan}
+use borrow.Author.Tests.{leb-true}
 use Rattle.calls.specs.LentMemory.{overwrite, unlessRefused}
 use Rattle.calls.specs.LentMemoryLaws.{length-after, new-at}
+use Rattle.calls.specs.NumberLaws.{and-passed}
 use Rattle.calls.specs.Signs.{flipped}
 use Rattle.channel.specs.declared.Channel.{Channel}
-use Rattle.channel.specs.Front.{llrOf}
+use Rattle.channel.specs.Front.{llrOf, isUsable, allFinite, frontNumber}
+use Rattle.channel.specs.FrontLaws.{tests-passed}
 use Rattle.channel.specs.FrontLaws as channelLaws
 use Rattle.antennas.specs.declared.Receiver.{Receiver}
-use Rattle.antennas.specs.FrontTwo.{llrAt}
+use Rattle.antennas.specs.FrontTwo.{Branches, areUsable, areFinite, llrAt, frontTwoNumber}
 use Rattle.antennas.specs.FrontTwoLaws as antennasLaws
 use Rattle.settings.specs.declared.Settings.{Settings}
 use Rattle.independence.specs.Front.{Front, OddFront, channelFront, antennasFront}
 
--- a front that writes `llr samples i` for each position i below N, where it accepts and then has room
+-- the law, of a front that leaves `llr samples i` at each position i below N where it accepts: the first two fields say
+-- that it does, the other two what negated samples do
 pub record TurnsSigns {Samples : Type 0} (N : ℕ) (front : Front Samples) (llr : Samples → ℕ → ℤ) : Type 0 where
   pub written : (samples : Samples) (old : List ℤ)
       → front .llrs samples old
@@ -53,20 +58,36 @@ module _ {Samples : Type 0} {N : ℕ} {front : Front Samples} {llr : Samples →
 
 -- ---- document 01's front, and the one for two antennas
 
+channel-room : (m C : ℕ) (channel : Channel) (samples : List Float) (room : ℕ)
+    → frontNumber m C channel samples room ≡ 0 → 2 ^ m ≤ room
+channel-room m C channel samples room ok =
+    let n = 2 ^ m in
+    let long = leb n (length samples) in
+    let passed = tests-passed m C (long && leb n room) (isUsable channel) (allFinite n samples) ok in
+    leb-true n room (and-passed long (leb n room) (passed .long-enough) .1)
+
 pub channel-odd : (s : Settings) (channel : Channel) → OddFront (2 ^ s .m) (channelFront s channel)
 channel-odd s channel =
     odd-front {llr = λ samples i. llrOf (s .ceiling) channel (getD samples i nan)} (record {
       written = λ samples old. refl;
-      room-long = channelLaws.front-room (s .m) (s .ceiling) channel;
+      room-long = channel-room (s .m) (s .ceiling) channel;
       llr-flips = channelLaws.llr-at-flipped (2 ^ s .m) (s .ceiling) channel;
       number-same = channelLaws.front-number-flipped (s .m) (s .ceiling) channel;
     })
+
+antennas-room : (m C : ℕ) (receiver : Receiver) (samples : Branches) (room : ℕ)
+    → frontTwoNumber m C receiver samples room ≡ 0 → 2 ^ m ≤ room
+antennas-room m C receiver samples room ok =
+    let n = 2 ^ m in
+    let long = leb n (length (samples .first)) && leb n (length (samples .second)) in
+    let passed = tests-passed m C (long && leb n room) (areUsable receiver) (areFinite n samples) ok in
+    leb-true n room (and-passed long (leb n room) (passed .long-enough) .1)
 
 pub antennas-odd : (s : Settings) (receiver : Receiver) → OddFront (2 ^ s .m) (antennasFront s receiver)
 antennas-odd s receiver =
     odd-front {llr = llrAt (s .ceiling) receiver} (record {
       written = λ samples old. refl;
-      room-long = antennasLaws.front-two-room (s .m) (s .ceiling) receiver;
+      room-long = antennas-room (s .m) (s .ceiling) receiver;
       llr-flips = antennasLaws.llr-at-flipped (2 ^ s .m) (s .ceiling) receiver;
       number-same = antennasLaws.front-two-number-flipped (s .m) (s .ceiling) receiver;
     })
