@@ -5,7 +5,7 @@
 
 #include "vedrogne.h"
 
-enum { MOST_BYTES = 32768, MOST_POSITIONS = 1024, TIDY_ROOM = 12284, REPORT_ROOM = 32768 };
+enum { MOST_BYTES = 32768, MOST_POSITIONS = 1024, TIDY_ROOM = 12283, REPORT_ROOM = 32768 };
 
 static const char *const names[6] = { "m", "ceiling", "scale", "limit", "criterion", "operand" };
 

@@ -25,7 +25,7 @@ pub fn ranges() {
     settings(sized(11, 31));
     settings(sized(1, 2048));
     settings(small::of(17, 10, 1, 0));
-    settings(small::of(16, 201, 1, 0));
+    settings(small::of(16, 65, 1, 0));
     settings(small::of(16, 10, 5, 32));
     settings(small::of(16, 10, 2, 32));
     settings(small::of(16, 10, 4, 32));

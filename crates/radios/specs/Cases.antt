@@ -23,12 +23,12 @@ own-tally-only = refl
 
 -- calls for radios 5, 5 and 63: an ending by either reason and a refusal
 abbrev counted-three : List Tally
-counted-three = talliesCounted 63 (talliesCounted 5 (talliesCounted 5 noBlocks (ended 7 1)) (ended 200 2)) (refused 10)
+counted-three = talliesCounted 63 (talliesCounted 5 (talliesCounted 5 noBlocks (ended 7 1)) (ended 64 2)) (refused 10)
 
-pub counted-in-turn : counted-three ≡ set (set noBlocks 5 (tally 2 1 1 0 207)) 63 (tally 1 0 0 1 0)
+pub counted-in-turn : counted-three ≡ set (set noBlocks 5 (tally 2 1 1 0 71)) 63 (tally 1 0 0 1 0)
 counted-in-turn = refl
 
-pub their-sum : sumOver counted-three ≡ tally 3 1 1 1 207
+pub their-sum : sumOver counted-three ≡ tally 3 1 1 1 71
 their-sum = refl
 
 -- what 15 and 16 refuse leaves all 64 as they were

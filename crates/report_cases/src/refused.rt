@@ -6,7 +6,7 @@ pub fn settings() {
     say::settings(b"m = 11", b"11 31 16 10 1 0");
     say::settings(b"ceiling 2048", b"1 2048 16 10 1 0");
     say::settings(b"scale 17", b"1 31 17 10 1 0");
-    say::settings(b"limit 201", b"1 31 16 201 1 0");
+    say::settings(b"limit 65", b"1 31 16 65 1 0");
     say::settings(b"criterion 5", b"1 31 16 10 5 0");
     say::settings(b"criterion 2, operand 32", b"1 31 16 10 2 32");
     say::settings(b"criterion 4, operand 32", b"1 31 16 10 4 32");

@@ -93,6 +93,10 @@ shown-digits : (k n : ℕ) → n < 10 ^ suc k → length (shown (pos n)) ≤ suc
 unfolding shown
 shown-digits k n h = decimal-length k n h
 
+-- the most bytes of the line of the settings: their digits, five spaces and the end of the line
+abbrev pub longestSettingsLine : ℕ
+longestSettingsLine = 21
+
 -- the most bytes of the lines of n positions from p on: the digits of each, and 9 for its mask value, its LLR, two
 -- spaces and the end of the line
 linesBytes : ℕ → ℕ → ℕ
@@ -121,7 +125,7 @@ module _ (s : Settings) (b : Block) (none : blockNumber s b ≡ 0) where
   position-digits p h =
       omega (arith, few-positions s b none, mask-small s b none p h, llr-small s b none p h)
 
-  pub settings-bytes : length (line (valuesOf s)) ≤ 22
+  pub settings-bytes : length (line (valuesOf s)) ≤ longestSettingsLine
   settings-bytes =
       let a = block-accepted s b none .settings in
       omega (
@@ -130,7 +134,7 @@ module _ (s : Settings) (b : Block) (none : blockNumber s b ≡ 0) where
         shown-digits 1 (s .m) (omega arith),
         shown-digits 3 (s .ceiling) (omega arith),
         shown-digits 1 (s .scale) (omega arith),
-        shown-digits 2 (s .limit) (omega arith),
+        shown-digits 1 (s .limit) (omega arith),
         shown-digits 0 (s .criterion) (omega arith),
         shown-digits 3 (s .operand) (omega (arith, operand-small s b none)),
       )

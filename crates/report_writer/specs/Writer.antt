@@ -35,7 +35,7 @@ tidyText s b =
 
 -- how many bytes the text of an accepted block has at most: 1,024 positions, and as many digits as the ranges allow
 abbrev pub longestTidyText : ℕ
-longestTidyText = 12284
+longestTidyText = 12283
 
 -- ---- the number: the decoder's, of what is handed in; last of all 7, for a slice shorter than the text
 

@@ -20,7 +20,7 @@ use calls::Refusal;
 use settings::Settings;
 
 // The most bytes of a text that is written.
-pub const LONGEST_TIDY_TEXT: usize = 12284;
+pub const LONGEST_TIDY_TEXT: usize = 12283;
 
 // The length of the text, or a refusal.
 pub enum Written {

@@ -57,7 +57,7 @@ pub scale : map (λ k. of-settings (set 1 31 k 10 1 0)) (0 ∷ 1 ∷ 16 ∷ 17 �
 scale = refl
 
 -- 4
-pub limit : map (λ T. of-settings (set 1 31 16 T 1 0)) (0 ∷ 1 ∷ 200 ∷ 201 ∷ []) ≡ 4 ∷ 0 ∷ 0 ∷ 4 ∷ []
+pub limit : map (λ T. of-settings (set 1 31 16 T 1 0)) (0 ∷ 1 ∷ 64 ∷ 65 ∷ 200 ∷ []) ≡ 4 ∷ 0 ∷ 0 ∷ 4 ∷ 4 ∷ []
 limit = refl
 
 -- 5, with an operand that fits criterion 4

@@ -1,4 +1,5 @@
--- Document 01, the decoder's lines of "Numbers by who causes them": 1 to 10, of which 2026-04 amends 5 and 6.
+-- Document 01, the decoder's lines of "Numbers by who causes them": 1 to 10, of which 2026-04 amends 5 and 6, and
+-- 2026-07 amends 4.
 -- Definitions only.
 use Prim.Native.Nat.{ℕ, zero, suc, _^_}
 use mathlib.Core.Bool.{Bool, _&&_}
@@ -26,9 +27,9 @@ operandFits C (suc (suc zero)) operand = between 1 C operand
 operandFits C (suc (suc (suc zero))) operand = between 1 8 operand
 operandFits C (suc (suc (suc (suc n)))) operand = between 1 C operand
 
--- the largest limit T
+-- the largest limit T (2026-07)
 abbrev pub largestLimit : ℕ
-largestLimit = 200
+largestLimit = 64
 
 -- the last criterion (2026-04)
 abbrev pub largestCriterion : ℕ

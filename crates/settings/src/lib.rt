@@ -16,7 +16,7 @@ use calls::LARGEST_SCALE;
 use calls::Refusal;
 
 // The largest limit T.
-const LARGEST_LIMIT: u32 = 200;
+const LARGEST_LIMIT: u32 = 64;
 
 // The criteria are numbered from 0 to this one.
 const LARGEST_CRITERION: u32 = 4;

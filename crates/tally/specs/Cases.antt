@@ -26,8 +26,8 @@ blocks = refl
 pub sum : map (λ n. tallyNumber (tally n 3 2 4 5)) (8 ∷ 9 ∷ 10 ∷ []) ≡ 15 ∷ 0 ∷ 15 ∷ []
 sum = refl
 
--- iterations one below the endings, at them, at 200 times them and one above
-pub iterations : map (λ n. tallyNumber (tally 9 3 2 4 n)) (4 ∷ 5 ∷ 1000 ∷ 1001 ∷ []) ≡ 15 ∷ 0 ∷ 0 ∷ 15 ∷ []
+-- iterations one below the endings, at them, above 64 times them, at 200 times them and one above
+pub iterations : map (λ n. tallyNumber (tally 9 3 2 4 n)) (4 ∷ 5 ∷ 321 ∷ 1000 ∷ 1001 ∷ []) ≡ 15 ∷ 0 ∷ 0 ∷ 0 ∷ 15 ∷ []
 iterations = refl
 
 -- without an ending there are no iterations
@@ -43,10 +43,10 @@ past-32-bits = refl
 
 -- an ending by either reason and a refusal, counted one after the other; a refusal with 15
 -- among the answers counts nowhere
-pub counted-in-turn : counted (counted (counted none (ended 7 1)) (refused 10)) (ended 200 2) ≡ tally 3 1 1 1 207
+pub counted-in-turn : counted (counted (counted none (ended 7 1)) (refused 10)) (ended 64 2) ≡ tally 3 1 1 1 71
 counted-in-turn = refl
 
-pub counted-over : countsOver (others (ended 7 1 ∷ refused 10 ∷ refused 15 ∷ ended 200 2 ∷ [])) ≡ tally 3 1 1 1 207
+pub counted-over : countsOver (others (ended 7 1 ∷ refused 10 ∷ refused 15 ∷ ended 64 2 ∷ [])) ≡ tally 3 1 1 1 71
 counted-over = refl
 
 -- a reason other than 1 and 2 counts as neither, so a tally that met one is refused

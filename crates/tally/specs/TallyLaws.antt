@@ -188,7 +188,7 @@ left-usable-or-full (c ∷ calls) t u =
 pub run-usable-or-full : (calls : List Call) → UsableOrFull (tallyAfter none calls)
 run-usable-or-full calls = left-usable-or-full calls none none-usable-or-full
 
-answered-from : (calls : List Call) (t : Tally) → tallyNumber t ≡ 0 → t .blocks + length calls ≤ mostBlocks
+pub answered-from : (calls : List Call) (t : Tally) → tallyNumber t ≡ 0 → t .blocks + length calls ≤ mostBlocks
     → answers t calls ≡ map decoded calls
 answered-from [] t h few = refl
 answered-from (c ∷ []) t h few = rw h
@@ -219,7 +219,7 @@ pub answer-counts : (r : Result) → DecoderAnswer r → counts r ≡ true
 answer-counts (refused number) d = rw (ne-eqb number 15 (λ e. omega arith))
 answer-counts (ended iteration reason) d = refl
 
-counted-after : (calls : List Call) (t : Tally) → tallyAfter t calls ≡ plus t (countsOver (others (answers t calls)))
+pub counted-after : (calls : List Call) (t : Tally) → tallyAfter t calls ≡ plus t (countsOver (others (answers t calls)))
 counted-after [] t = same-tally (omega arith) (omega arith) (omega arith) (omega arith) (omega arith)
 counted-after (c ∷ calls) t = by-number (tallyNumber t) refl (λ u. counted-after calls u)
   where

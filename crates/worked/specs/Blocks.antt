@@ -196,13 +196,13 @@ blocks =
     (ends 1 1 (pos 31 ∷ minus 28 ∷ []) (0 ∷ 1 ∷ []) (minus 28 ∷ minus 28 ∷ []) (1 ∷ 1 ∷ []))
     ∷ line (block 1 16 10 1 0 (1 ∷ 0 ∷ []) (pos 32 ∷ minus 3 ∷ [])) (refuses 10)
     ∷ line (block 1 16 10 1 0 (1 ∷ 0 ∷ []) (pos 5 ∷ minus 32768 ∷ [])) (refuses 10)
-    -- T = 200, by criterion 1 and to the limit, T = 0 and T = 201
-    ∷ line (block 1 16 200 1 0 (1 ∷ 0 ∷ []) (pos 5 ∷ minus 3 ∷ []))
+    -- T = 64, by criterion 1 and to the limit, T = 0 and T = 65 (2026-07)
+    ∷ line (block 1 16 64 1 0 (1 ∷ 0 ∷ []) (pos 5 ∷ minus 3 ∷ []))
     (ends 1 1 (pos 31 ∷ pos 2 ∷ []) (0 ∷ 0 ∷ []) (pos 2 ∷ pos 2 ∷ []) (0 ∷ 0 ∷ []))
-    ∷ line (block 1 16 200 0 0 (1 ∷ 0 ∷ []) (pos 5 ∷ minus 3 ∷ []))
-    (ends 200 2 (pos 31 ∷ pos 2 ∷ []) (0 ∷ 0 ∷ []) (pos 2 ∷ pos 2 ∷ []) (0 ∷ 0 ∷ []))
+    ∷ line (block 1 16 64 0 0 (1 ∷ 0 ∷ []) (pos 5 ∷ minus 3 ∷ []))
+    (ends 64 2 (pos 31 ∷ pos 2 ∷ []) (0 ∷ 0 ∷ []) (pos 2 ∷ pos 2 ∷ []) (0 ∷ 0 ∷ []))
     ∷ line (block 1 16 0 1 0 (1 ∷ 0 ∷ []) (pos 5 ∷ minus 3 ∷ [])) (refuses 4)
-    ∷ line (block 1 16 201 1 0 (1 ∷ 0 ∷ []) (pos 5 ∷ minus 3 ∷ [])) (refuses 4)
+    ∷ line (block 1 16 65 1 0 (1 ∷ 0 ∷ []) (pos 5 ∷ minus 3 ∷ [])) (refuses 4)
     ∷ []
 
 pub worked : map (λ l. l .found) blocks ≡ map (λ l. l .expected) blocks

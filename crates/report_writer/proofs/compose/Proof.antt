@@ -11,6 +11,7 @@ use Rattle.format.specs.WroteLaws.{wrote-then, wrote-room}
 use Rattle.report_input.specs.Input.{settingNames, positionNames, Block, blockOf}
 use Rattle.report_writer.specs.Writer.{valuesOf, valuesAt, tidyText}
 use Rattle.report_writer.specs.RoomLaws.{
+  longestSettingsLine,
   block-accepted,
   few-positions,
   settings-digits,
@@ -32,7 +33,7 @@ module _ (c : tie.After-copy) where
   abbrev b : Block
   b = blockOf (start .args .mask .now) (start .args .llr .now)
 
-  short : length (line (valuesOf s)) ≤ 22
+  short : length (line (valuesOf s)) ≤ longestSettingsLine
   short = settings-bytes s b (start .pre .0)
 
 -- the names and the line of the settings
