@@ -30,7 +30,7 @@
  *     1      m is outside 1..10                                                all but report
  *     2      the ceiling C is outside 1..2047                                  front, decode, read, write
  *     3      the scale k is outside 1..16                                      decode, read, write
- *     4      the limit T is outside 1..200                                     decode, read, write
+ *     4      the limit T is outside 1..64                                      decode, read, write
  *     5      the criterion is outside 0..4                                     decode, read, write
  *     6      the operand is outside its criterion's range                      decode, read, write
  *     7      a list is shorter than needed. The list of settings and that      all
@@ -133,7 +133,7 @@ uint32_t vedrogne_front_two(
  * test.
  *   ceiling    C, 1 to 2047: every message of the decoder lies from -C to C
  *   scale      k, 1 to 16: a message is k/16 of the min-sum value, cut down to a whole number
- *   limit      T, 1 to 200: the most iterations
+ *   limit      T, 1 to 64: the most iterations
  *   criterion  what is tried after each iteration, and its operand
  *              0   nothing; operand 0
  *              1   no ties, and the marks coded are the coded marks; operand 0
@@ -206,7 +206,7 @@ uint32_t vedrogne_decode_radio(
  * its mask value and its LLR. A value is an optional minus and 1 to 6 digits, leading zeros allowed. Values are parted
  * by one or more spaces, none stands at either end of a line. Every line ends with byte 10 and nothing follows the last
  * one. A text has at most 32,768 bytes. It is tidy where it has single spaces, no leading zeros and no minus before 0:
- * settings and a block that the decoder accepts have one tidy text, of at most 12,284 bytes.
+ * settings and a block that the decoder accepts have one tidy text, of at most 12,283 bytes.
  */
 
 /*
@@ -237,7 +237,7 @@ uint32_t vedrogne_read(
  * Handed text and *written for its length, vedrogne_read reads the same settings and the first N elements of mask and
  * llr. (Every byte of a text counts, so what is behind must not be handed over with it.) Two texts that vedrogne_read
  * accepts are written alike exactly when it reads the same from both.
- * Needed: six elements of settings, N of mask and llr, and of text as many as the tidy text has bytes; 12,284 are
+ * Needed: six elements of settings, N of mask and llr, and of text as many as the tidy text has bytes; 12,283 are
  * enough for every block. Numbers: 7 for settings, then 1 to 10, then 7 for the text.
  */
 uint32_t vedrogne_write(

@@ -12,6 +12,11 @@ const NAMES: [&str; 4] = [
     "baseline (C -O3)",
 ];
 
+/// A round is so many calls, each of as many iterations as a call can have: at small m one call alone would be too short
+/// to time.
+const CALLS: u32 = 4;
+const LARGEST_LIMIT: u32 = 64;
+
 fn run(which: usize, block: &Block, limit: u32, to: &mut Lent) {
     match which {
         0 => drop(proved(block, (0, 0), limit, to)),
@@ -33,16 +38,16 @@ fn compare(block: &Block, criterion: u32, limit: u32) {
 }
 
 /// Best and median time of one iteration in nanoseconds, for each decoder, over interleaved rounds.
-fn iteration_times(block: &Block, rounds: usize, limit: u32) -> [(f64, f64); 4] {
-    compare(block, 0, limit);
+fn iteration_times(block: &Block, rounds: usize) -> [(f64, f64); 4] {
+    compare(block, 0, LARGEST_LIMIT);
     let mut to = lent(block.m);
     let mut times = vec![Vec::new(); 4];
     let mut softs: Vec<Vec<i16>> = Vec::new();
     for round in 0..=rounds {
         for (which, times) in times.iter_mut().enumerate() {
             let begin = Instant::now();
-            run(which, block, limit, &mut to);
-            let time = begin.elapsed().as_nanos() as f64 / f64::from(limit);
+            (0..CALLS).for_each(|_| run(which, block, LARGEST_LIMIT, &mut to));
+            let time = begin.elapsed().as_nanos() as f64 / f64::from(CALLS * LARGEST_LIMIT);
             if round == 0 {
                 softs.push(to.soft.clone());
             } else {
@@ -64,11 +69,11 @@ fn iteration_times(block: &Block, rounds: usize, limit: u32) -> [(f64, f64); 4] 
 
 fn iteration_table(random: &mut Random) {
     println!(
-        "One iteration at m = 10 under criterion 0 (ns; best and median of 60 rounds of 200 iterations; \
-         ratio of the best to the baseline's)"
+        "One iteration at m = 10 under criterion 0 (ns; best and median of 60 rounds of {CALLS} calls of \
+         {LARGEST_LIMIT} iterations; ratio of the best to the baseline's)"
     );
     let block = noisy(10, 2.5, random);
-    let figures = iteration_times(&block, 60, 200);
+    let figures = iteration_times(&block, 60);
     for (name, (best, median)) in NAMES.iter().zip(figures) {
         println!(
             "{name:20} {best:9.0} {median:9.0} {:7.2}",
@@ -84,11 +89,12 @@ fn iteration_table(random: &mut Random) {
 
 fn growth_table(random: &mut Random) {
     println!(
-        "\nOne iteration by m (ns, best of 30 rounds of 200 iterations): proved, baseline, ratio"
+        "\nOne iteration by m (ns, best of 30 rounds of {CALLS} calls of {LARGEST_LIMIT} iterations): \
+         proved, baseline, ratio"
     );
     for m in 1..=10 {
         let block = noisy(m, 2.5, random);
-        let figures = iteration_times(&block, 30, 200);
+        let figures = iteration_times(&block, 30);
         println!(
             "m = {m:2} {:9.0} {:9.0} {:6.2}",
             figures[0].0,

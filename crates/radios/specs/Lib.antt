@@ -2,4 +2,5 @@ pub mod Radios
 pub mod Runs
 pub mod RadioLaws
 pub mod SumLaws
+pub mod OldTallyLaws
 pub mod Cases

@@ -1,6 +1,6 @@
 -- Laws of `vedrogne_decode_radio`: it is the method `decode` of `Radios`, though it reads and writes the five numbers
 -- of one radio alone.
-use Prim.Native.Nat.{ℕ, zero, suc, _+_, _*_, _≤_}
+use Prim.Native.Nat.{ℕ, zero, suc, _+_, _*_, _≤_, _<_}
 use mathlib.Core.Path.{_≡_, refl, sym, ap, ap₂, _∙_}
 use mathlib.Core.List.{List, _++_}
 use borrow.Author.Tests.{leb-true, ltb-true}
@@ -13,10 +13,12 @@ use Rattle.settings.specs.Slices.{Slices}
 use Rattle.decoder.specs.Decoder.{Result, resultOf, decodeResult, decodeSlices}
 use Rattle.tally.specs.declared.Tally.{Tally}
 use Rattle.tally.specs.Tally.{counted, answerBy}
+use Rattle.tally.specs.OldTallies.{oldTallyNumber}
 use Rattle.radios.specs.declared.Radios.{Radios}
 use Rattle.radios.specs.declared.RadioTallied.{RadioTallied}
 use Rattle.radios.specs.Radios.{radioCount, radioNumber, tallyOf, radioCallNumber, talliesCounted, RadioDecode}
 use Rattle.radios.specs.RadioLaws.{tallies-length}
+use Rattle.radios.specs.OldTallyLaws.{old-tally-accepted}
 use Rattle.vedrogne.specs.Interface.{
   tallyLength,
   talliesLength,
@@ -113,3 +115,18 @@ module _ {radio : ℕ} {tallies tallies′ settings mask : List ℕ} {llr : List
       list-after (passed .0)
       ∙ ap (λ (number : ℕ). talliesOut (unlessRefused number (set all radio own) all) tallies) (passed .1)
       ∙ own-written tallies radio own known (tallies-long tallies settings (passed .0))
+
+  -- request 2026-07: a radio's tally that was counted while T ran to 200 goes on. The number returned is the decoder's,
+  -- and its answer is counted in the radio's own five numbers
+  pub old-numbers-go-on : listsNumber tallies settings ≡ 0 → radio < radioCount
+      → oldTallyNumber (tallyOf radio (talliesIn tallies)) ≡ 0
+      → (r ≡ resultNumber answer)
+      × (tallies′
+      ≡ take (tallyLength * radio) tallies
+      ++ tallyList (counted (tallyOf radio (talliesIn tallies)) answer)
+      ++ drop (tallyLength * radio + tallyLength) tallies)
+  old-numbers-go-on lists known old =
+      let none = first-number lists ∙ old-tally-accepted radio (talliesIn tallies) known old in (
+        c .call .number-is ∙ ap (λ (number : ℕ). resultNumber (answerBy number answer)) none,
+        own-numbers-written none,
+      )
