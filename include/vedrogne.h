@@ -177,7 +177,8 @@ uint32_t vedrogne_decode(
  *
  * Numbers: 7 for fewer than 320 elements of tallies, 7 for fewer than six of settings, 16, 15; none of these is
  * counted, and all tallies stay as they were. Then 1 to 10. What the other 63 tallies hold refuses nothing. From zeros
- * none of the first 1,000,000 calls is refused with 15.
+ * none of the first 1,000,000 calls is refused with 15. A tally allows 200 iterations for each ending, more than a call
+ * can have, so that tallies counted while the limit ran to 200 go on.
  */
 uint32_t vedrogne_decode_radio(
     uint32_t radio,
