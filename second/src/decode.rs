@@ -39,6 +39,9 @@ pub struct Decoded {
     pub messages: Messages,
 }
 
+/// The limit T runs from 1 to this.
+pub const LARGEST_LIMIT: i64 = 64;
+
 impl Settings {
     /// The settings from a list in the order of their names.
     pub fn from_list(list: [i64; 6]) -> Self {
@@ -70,7 +73,7 @@ impl Settings {
         let n = block_len(self.m)?;
         require((1..=2047).contains(&self.ceiling), Refusal::Ceiling)?;
         require((1..=16).contains(&self.scale), Refusal::Scale)?;
-        require((1..=200).contains(&self.limit), Refusal::Limit)?;
+        require((1..=LARGEST_LIMIT).contains(&self.limit), Refusal::Limit)?;
         let operands = match self.criterion {
             0 | 1 => 0..=0,
             2 | 4 => 1..=self.ceiling,

@@ -24,13 +24,13 @@ pub mod text;
 pub mod tidy;
 
 pub use code::{encode, read_out};
-pub use decode::{decode, Ending, Lent, Settings};
+pub use decode::{decode, Ending, Lent, Settings, LARGEST_LIMIT};
 pub use front::{front, front_two, Channel, Receiver};
 pub use radios::{decode_radio, Radios, RADIOS};
 pub use refusal::Refusal;
 pub use report::report;
 pub use summary::summary;
-pub use tally::Tally;
+pub use tally::{Tally, MOST_ITERATIONS};
 pub use text::read;
 pub use tidy::{tidy, write};
 

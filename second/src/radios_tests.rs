@@ -15,7 +15,11 @@ fn tally_bounds() {
     assert!(!may_count([1_000_000, 0, 0, 1_000_000, 0]));
     assert!(!may_count([2, 1, 0, 0, 1]));
     assert!(!may_count([2, 1, 1, 0, 1]));
+    assert!(may_count([2, 1, 1, 0, 128]));
+    assert!(may_count([2, 1, 1, 0, 129]));
+    assert!(may_count([2, 1, 1, 0, 400]));
     assert!(!may_count([2, 1, 1, 0, 401]));
+    assert!(!may_count([2, 0, 0, 2, 1]));
     assert!(!may_count([1, u32::MAX, 2, 0, 1]));
 }
 
@@ -65,9 +69,49 @@ fn a_call_counts_for_its_radio_alone() {
         let settings = [1, 31, 16, 10, 0, 0];
         assert_eq!(call(radio, &list, settings), (Ok(ending), after.clone()));
         after[own..own + 5].copy_from_slice(&[8, 3, 2, 3, 50]);
-        let settings = [1, 31, 16, 201, 1, 0];
-        assert_eq!(call(radio, &list, settings), (Err(4), after));
+        // Limits that are refused, such as were accepted formerly among them.
+        for limit in [0, 65, 200, 201] {
+            let settings = [1, 31, 16, limit, 1, 0];
+            assert_eq!(call(radio, &list, settings), (Err(4), after.clone()));
+        }
     }
+}
+
+/// Calls under the limit 64 lead to at most 320 iterations in five endings.
+#[test]
+fn an_old_tally_goes_on() {
+    let list_of = |numbers: [u32; 5]| [&numbers[..], &[0; 315]].concat();
+    for iterations in [321, 322, 500, 999, 1000] {
+        let list = list_of([7, 3, 2, 2, iterations]);
+        let (answer, after) = call(0, &list, LIST);
+        assert!(answer.is_ok());
+        assert_eq!(after, list_of([8, 4, 2, 2, iterations + 1]));
+        let (answer, after) = call(0, &list, [1, 31, 16, 64, 0, 0]);
+        assert!(answer.is_ok());
+        assert_eq!(after, list_of([8, 3, 3, 2, iterations + 64]));
+        for limit in [0, 65, 200, 201] {
+            let (answer, after) = call(0, &list, [1, 31, 16, limit, 0, 0]);
+            assert_eq!(answer, Err(4));
+            assert_eq!(after, list_of([8, 3, 2, 3, iterations]));
+        }
+    }
+    let list = list_of([7, 3, 2, 2, 1001]);
+    assert_eq!(call(0, &list, LIST), (Err(15), list.clone()));
+    assert_eq!(call(0, &list, [0; 6]), (Err(15), list));
+}
+
+/// It does so up to its last block, with as many iterations as it can have.
+#[test]
+fn an_old_tally_goes_on_to_the_end() {
+    let mut list = [&[999_990, 0, 999_990, 0, 199_998_000][..], &[0; 315]].concat();
+    for calls in 1..=10 {
+        let (answer, after) = call(0, &list, [1, 31, 16, 64, 0, 0]);
+        assert!(answer.is_ok());
+        let blocks = 999_990 + calls;
+        assert_eq!(after[..5], [blocks, 0, blocks, 0, 199_998_000 + 64 * calls]);
+        list = after;
+    }
+    assert_eq!(call(0, &list, LIST), (Err(15), list.clone()));
 }
 
 #[test]

@@ -9,7 +9,7 @@ pub enum Refusal {
     Ceiling = 2,
     /// k outside 1..16
     Scale = 3,
-    /// T outside 1..200
+    /// T outside 1..`LARGEST_LIMIT`
     Limit = 4,
     /// criterion outside 0..4
     Criterion = 5,

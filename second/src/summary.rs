@@ -3,6 +3,7 @@
 
 use crate::radios::RADIOS;
 use crate::refusal::{require, Refusal};
+use crate::tally::iterations_of;
 use crate::text::{refused, take_line, words, MOST_BYTES};
 use std::cmp::Ordering;
 
@@ -85,7 +86,7 @@ impl Row {
         let endings = self.endings();
         self.blocks <= 1_000_000
             && self.blocks == endings + self.refusals
-            && (endings..=200 * endings).contains(&self.iterations)
+            && iterations_of(endings).contains(&self.iterations)
     }
 
     /// Which of two rows with blocks comes first: the one of the smaller share

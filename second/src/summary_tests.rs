@@ -55,6 +55,15 @@ fn halves_go_up() {
 }
 
 #[test]
+fn old_tallies_have_lines() {
+    for (iterations, mean) in [(128, "64.0"), (129, "64.5"), (399, "199.5"), (400, "200.0")] {
+        let expected = format!("1 3 33.3% 1 {mean}\n");
+        assert_eq!(lines_of(&format!("1 3 1 1 1 {iterations}\n")), expected);
+    }
+    assert_eq!(summary_of("1 3 1 1 1 401\n"), "refused\n15\n");
+}
+
+#[test]
 fn spellings() {
     let plain = lines_of("4 10 3 4 3 77\n40 1 0 0 1 0\n");
     let other = lines_of("000000004  010 3   4 03 000000077\n40 1 000000000 0 1 00\n");

@@ -2,6 +2,16 @@
 
 use crate::decode::Ending;
 use crate::refusal::Refusal;
+use std::ops::RangeInclusive;
+
+/// A tally has at most so many iterations for each ending. That is more than the
+/// largest limit, so that tallies from before the limit was lowered can go on.
+pub const MOST_ITERATIONS: u64 = 200;
+
+/// The iterations that so many endings can have, from the fewest to the most.
+pub fn iterations_of(endings: u64) -> RangeInclusive<u64> {
+    endings..=MOST_ITERATIONS * endings
+}
 
 /// The five counts.
 #[derive(Clone, Copy, Debug, Default, PartialEq, Eq)]
@@ -40,11 +50,9 @@ impl Tally {
     pub fn may_count(&self) -> bool {
         let blocks = u64::from(self.blocks);
         let endings = u64::from(self.reason1) + u64::from(self.reason2);
-        let iterations = u64::from(self.iterations);
         blocks < 1_000_000
             && blocks == endings + u64::from(self.refusals)
-            && iterations >= endings
-            && iterations <= 200 * endings
+            && iterations_of(endings).contains(&u64::from(self.iterations))
     }
 
     /// The tally with the answer of one more call counted.

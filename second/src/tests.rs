@@ -338,10 +338,48 @@ fn bounds_of_llr_and_limit() {
     assert_eq!(run(USUAL, P1_MASK, &[32, 0]).answer, Err(Refusal::Llr));
     assert_eq!(run(USUAL, P1_MASK, &[0, -32768]).answer, Err(Refusal::Llr));
     let with = |limit| Settings { limit, ..USUAL };
-    assert!(run(with(200), P1_MASK, P1_LLR).answer.is_ok());
-    for bad in [0, 201] {
+    assert!(run(with(64), P1_MASK, P1_LLR).answer.is_ok());
+    // 200 was the largest limit once.
+    for bad in [0, 65, 66, 199, 200, 201] {
         let answer = run(with(bad), P1_MASK, P1_LLR).answer;
         assert_eq!(answer, Err(Refusal::Limit));
+    }
+}
+
+#[test]
+fn the_decoder_goes_on_to_its_limit() {
+    for limit in 1..=64 {
+        let with = |criterion, limit| Settings {
+            criterion,
+            limit,
+            ..USUAL
+        };
+        let all = ended(limit as u32, 2);
+        assert_eq!(run(with(0, limit), P1_MASK, P1_LLR).answer, all);
+        assert_eq!(run(with(1, limit), P1_MASK, &[3, -3]).answer, all);
+        assert_eq!(run(with(1, limit), P1_MASK, P1_LLR).answer, ended(1, 1));
+    }
+}
+
+#[test]
+fn a_block_ends_at_the_largest_limit() {
+    // The least size of a soft output is 33 from iteration 62 on, 34 from 64 on.
+    for criterion in [2, 4] {
+        let answer = |limit, operand| {
+            let settings = Settings {
+                m: 2,
+                ceiling: 2047,
+                limit,
+                criterion,
+                operand,
+                ..USUAL
+            };
+            run(settings, &[1, 1, 0, 0], &[-36, -16, -18, 17]).answer
+        };
+        assert_eq!(answer(64, 33), ended(62, 1));
+        assert_eq!(answer(64, 34), ended(64, 1));
+        assert_eq!(answer(64, 35), ended(64, 2));
+        assert_eq!(answer(63, 34), ended(63, 2));
     }
 }
 

@@ -84,24 +84,35 @@ fn tidy_texts() {
     assert_eq!(tidy_of(UNTIDY), WORKED);
     assert_eq!(tidy_of(WORKED), WORKED);
     assert_eq!(report_of(UNTIDY), report_of(WORKED));
-    assert_eq!(
-        tidy_of(&WORKED.replacen("10 1", "201 1", 1)),
-        "refused\n4\n"
-    );
     assert_eq!(tidy_of(&WORKED.replacen(" -3", " -32", 1)), "refused\n10\n");
     assert_eq!(tidy_of(&UNTIDY[..UNTIDY.len() - 1]), "refused\n14\n");
 }
 
 #[test]
+fn limits_of_texts() {
+    let with = |limit: &str| WORKED.replacen("10 1", &format!("{limit} 1"), 1);
+    for limit in ["1", "64"] {
+        assert_eq!(tidy_of(&with(limit)), with(limit));
+        assert_eq!(report_of(&with(limit)), report_of(WORKED));
+    }
+    assert_eq!(tidy_of(&with("000064")), with("64"));
+    for limit in ["-64", "0", "65", "0065", "100", "200", "201", "320"] {
+        assert_eq!(tidy_of(&with(limit)), "refused\n4\n");
+        assert_eq!(report_of(&with(limit)), "refused\n4\n");
+        assert_eq!(read_into(&with(limit), [2, 2]).0, Err(Refusal::Limit));
+    }
+}
+
+#[test]
 fn longest_tidy_text() {
     for criterion in [2, 4] {
-        let settings = Settings::from_list([10, 2047, 16, 200, criterion, 2047]);
-        let mut text = [b'x'; 12_285];
+        let settings = Settings::from_list([10, 2047, 16, 64, criterion, 2047]);
+        let mut text = [b'x'; 12_284];
         let mut write = |len| write(&settings, &[0; 1024], &[-2047; 1024], &mut text[..len]);
-        assert_eq!(write(12_283), Err(Refusal::Slice));
-        assert_eq!(write(12_285), Ok(12_284));
-        assert_eq!(text[12_271..], *b"1023 0 -2047\nx");
-        assert_eq!(tidy(&text[..12_284]), text[..12_284]);
+        assert_eq!(write(12_282), Err(Refusal::Slice));
+        assert_eq!(write(12_284), Ok(12_283));
+        assert_eq!(text[12_270..], *b"1023 0 -2047\nx");
+        assert_eq!(tidy(&text[..12_283]), text[..12_283]);
     }
 }
 
@@ -195,7 +206,7 @@ fn writer_orders_its_refusals() {
 
 #[test]
 fn reading_what_is_written() {
-    let mut settings = Settings::from_list([3, 2047, 1, 200, 3, 8]);
+    let mut settings = Settings::from_list([3, 2047, 1, 64, 3, 8]);
     for (criterion, operand) in [(4, 2047), (3, 8), (2, 2047), (1, 0), (0, 0)] {
         (settings.criterion, settings.operand) = (criterion, operand);
         let mask = [0, 1, 0, 1, 1, 0, 0, 0];

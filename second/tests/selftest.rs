@@ -25,6 +25,10 @@ const FAULTS: &[&str] = &[
     "fence",
     "tally_wraps",
     "tally_full",
+    "tally_64_iterations",
+    "tally_one_iteration_less",
+    "tally_one_iteration_more",
+    "tally_old_cut",
     "radio_counts_in_0",
     "radio_15_of_0",
     "radio_15_of_all",
@@ -137,6 +141,28 @@ const FAULTS: &[&str] = &[
     "antennas_larger",
     "antennas_half_even",
     "antennas_half_up",
+    "decode_limit_0_accepted",
+    "decode_limit_64_refused",
+    "decode_limit_65_accepted",
+    "decode_limit_200_accepted",
+    "decode_limit_not_lowered",
+    "decode_limit_64_less_one",
+    "decode_limit_64_reason",
+    "read_limit_0_accepted",
+    "read_limit_64_refused",
+    "read_limit_65_accepted",
+    "read_limit_200_accepted",
+    "read_limit_not_lowered",
+    "write_limit_0_accepted",
+    "write_limit_64_refused",
+    "write_limit_65_accepted",
+    "write_limit_200_accepted",
+    "write_limit_not_lowered",
+    "report_limit_0_accepted",
+    "report_limit_64_refused",
+    "report_limit_65_accepted",
+    "report_limit_200_accepted",
+    "report_limit_not_lowered",
 ];
 
 /// Faults of a summary program.
@@ -157,6 +183,9 @@ const SUMMARY_FAULTS: &[&str] = &[
     "summary_sum",
     "summary_few_iterations",
     "summary_many_iterations",
+    "summary_64_iterations",
+    "summary_one_iteration_less",
+    "summary_one_iteration_more",
     "summary_line_end",
     "summary_outer_spaces",
     "summary_tab",
@@ -198,7 +227,9 @@ const UNCERTAIN: &[&str] = &[
 const BOTH_WRONG: &[(&str, &str)] = &[
     ("frozen_minus", "a frozen position is not certain"),
     ("criterion_4_frozen", "criteria 2 and 4 disagree"),
-    ("radio_counts_in_0", "the tallies are not the counts"),
+    ("radio_counts_in_0", COUNTS),
+    ("tally_64_iterations", COUNTS),
+    ("tally_old_cut", COUNTS),
     ("signed_product_shifted", MESSAGES),
     ("zero_sign", MESSAGES),
     ("antennas_no_number", MESSAGES),
@@ -216,6 +247,7 @@ const BOTH_WRONG: &[(&str, &str)] = &[
     ("antennas_half_even", ZEROS),
 ];
 
+const COUNTS: &str = "the tallies are not the counts";
 const MESSAGES: &str = "the property fails";
 const EXCHANGED: &str = "the branches exchanged make a difference";
 const ZEROS: &str = "zeros in the second branch make a difference";
@@ -224,6 +256,45 @@ const ZEROS: &str = "zeros in the second branch make a difference";
 /// by each one of criterion 4, and by two others.
 fn is_disagreement(fault: &str) -> bool {
     fault.starts_with("criterion_4_") || ["criterion_2_sums", "report_criterion_4"].contains(&fault)
+}
+
+/// What comes up among the calls at least 25 times: limits and tallies at their
+/// bounds, and tallies that only the former limit can have led to.
+const OFTEN: &[&str] = &[
+    "calls with the limit 0: answered 4",
+    "calls with the limit 64: answered 0",
+    "calls with the limit 65: answered 4",
+    "calls with a limit between 65 and 200: answered 4",
+    "calls with the limit 200: answered 4",
+    "calls with the limit 201: answered 4",
+    "calls ended by reason 1 at iteration 64",
+    "tallies that are old: an ending counted",
+    "tallies that are old: a refusal counted",
+    "tallies with the most iterations: an ending counted",
+    "tallies with the most iterations: a refusal counted",
+    "tallies with one iteration too many: nothing counted",
+];
+
+/// How often something came up, as `compare` tells it.
+fn count_of(told: &str, name: &str) -> u64 {
+    let count = |line: &str| {
+        line.trim()
+            .strip_prefix(name)?
+            .strip_prefix(": ")?
+            .parse()
+            .ok()
+    };
+    told.lines().find_map(count).unwrap_or(0)
+}
+
+/// The C function, or the beginning of the names of two, that a fault of the
+/// limit or of a tally is in: a call of it has to differ.
+fn function_of(fault: &str) -> Option<String> {
+    if fault.starts_with("tally_") {
+        return Some("vedrogne_decode_radio".to_string());
+    }
+    let (function, _) = fault.split_once("_limit_")?;
+    Some(format!("vedrogne_{function}"))
 }
 
 const REPORT: &str = env!("CARGO_BIN_EXE_report");
@@ -247,7 +318,8 @@ fn exit_code(programs: [&str; 3]) -> Option<i32> {
 }
 
 /// Calls for a radio with each combination of reasons to be refused are among
-/// the calls, and calls for two antennas with each rare kind of a pair.
+/// the calls, calls for two antennas with each rare kind of a pair, and often
+/// calls at the bounds of the limit and of a tally.
 #[test]
 fn no_fault_no_difference() {
     let output = run("", [REPORT, TIDY, RADIOS]);
@@ -256,6 +328,9 @@ fn no_fault_no_difference() {
     let combinations = told.matches("calls for a radio, reasons to refuse: ");
     assert_eq!(combinations.count(), 16);
     assert_eq!(told.matches("two antennas: calls with ").count(), 6);
+    for name in OFTEN {
+        assert!(count_of(&told, name) >= 25, "{name}");
+    }
 }
 
 #[test]
@@ -268,6 +343,9 @@ fn every_fault_is_found() {
         assert_eq!(uncertain, UNCERTAIN.contains(fault), "{fault}");
         let disagreeing = told.contains("criteria 2 and 4 disagree");
         assert_eq!(disagreeing, is_disagreement(fault), "{fault}");
+        if let Some(name) = function_of(fault) {
+            assert!(told.contains(&format!("\n{name}")), "{fault}");
+        }
     }
 }
 

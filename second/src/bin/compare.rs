@@ -17,6 +17,8 @@
 mod agree;
 #[path = "compare/antennas.rs"]
 mod antennas;
+#[path = "compare/bounds.rs"]
+mod bounds;
 #[path = "compare/calls.rs"]
 mod calls;
 #[path = "compare/comparing.rs"]
@@ -41,6 +43,8 @@ mod frozen;
 mod generate;
 #[path = "compare/judge.rs"]
 mod judge;
+#[path = "compare/late.rs"]
+mod late;
 #[path = "compare/lists.rs"]
 mod lists;
 #[cfg_attr(not(any(archive, feature = "selftest")), allow(dead_code))]
@@ -74,6 +78,9 @@ mod selftest_criteria;
 #[cfg(feature = "selftest")]
 #[path = "compare/selftest_frozen.rs"]
 mod selftest_frozen;
+#[cfg(feature = "selftest")]
+#[path = "compare/selftest_limits.rs"]
+mod selftest_limits;
 #[cfg(feature = "selftest")]
 #[path = "compare/selftest_radios.rs"]
 mod selftest_radios;

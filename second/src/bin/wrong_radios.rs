@@ -3,6 +3,7 @@
 //! them. Without one it prints what the second summary program prints.
 
 use second::summary::{Row, LIST_NAMES, SUMMARY_NAMES};
+use second::MOST_ITERATIONS;
 use std::cmp::Ordering;
 use std::io::{self, Read, Write};
 use std::sync::OnceLock;
@@ -100,7 +101,19 @@ fn adds_up(row: &Row) -> bool {
     row.blocks <= most
         && (row.blocks == endings + row.refusals || wrong("summary_sum"))
         && (row.iterations >= endings || wrong("summary_few_iterations"))
-        && (row.iterations <= 200 * endings || wrong("summary_many_iterations"))
+        && (row.iterations <= most_iterations(endings) || wrong("summary_many_iterations"))
+}
+
+/// The bound of the iterations, with the fault that is asked for.
+fn most_iterations(endings: u64) -> u64 {
+    let most = MOST_ITERATIONS * endings;
+    match () {
+        // Wrong: that of the limit; an iteration less, or one more.
+        _ if wrong("summary_64_iterations") => 64 * endings,
+        _ if wrong("summary_one_iteration_less") => most.saturating_sub(1),
+        _ if wrong("summary_one_iteration_more") => most + 1,
+        _ => most,
+    }
 }
 
 /// The six values of a line with its byte 10.

@@ -31,10 +31,7 @@ impl Named for DecodeCall {
 impl Named for ReportCall {
     /// The text stays as long as it was: a longer word gets zeros.
     fn put(&mut self, criterion: u8) {
-        let mut lines = self.text.slice_mut().split_mut(|&b| b == b'\n');
-        let words = lines.nth(1).unwrap_or_default().split_mut(|&b| b == b' ');
-        let word = words.filter(|word| !word.is_empty()).nth(CRITERION);
-        if let Some([zeros @ .., last]) = word {
+        if let Some([zeros @ .., last]) = setting_word(self.text.slice_mut(), CRITERION) {
             zeros.fill(b'0');
             *last = b'0' + criterion;
         }
@@ -43,6 +40,13 @@ impl Named for ReportCall {
     fn put_back(&mut self, call: &Self) {
         self.text = call.text.clone();
     }
+}
+
+/// The word of a text that stands at the place of a setting, if there is one.
+pub fn setting_word(text: &mut [u8], place: usize) -> Option<&mut [u8]> {
+    let mut lines = text.split_mut(|&b| b == b'\n');
+    let words = lines.nth(1)?.split_mut(|&b| b == b' ');
+    words.filter(|word| !word.is_empty()).nth(place)
 }
 
 fn under<C: Named>(call: &C, criterion: u8) -> C {

@@ -4,6 +4,10 @@ use crate::calls::{Counting, DecodeCall, EncodeCall, ReadOutCall};
 use crate::memory::Fenced;
 use crate::plan::*;
 use crate::rng::Rng;
+use second::LARGEST_LIMIT;
+
+/// The largest limit until request 2026-07, refused since.
+pub const FORMER_LIMIT: i64 = 200;
 
 /// How many faults a call gets.
 pub fn fault_count(rng: &mut Rng) -> usize {
@@ -60,6 +64,18 @@ pub fn bad_ceiling(rng: &mut Rng) -> i64 {
     }
 }
 
+/// A limit outside its range, but not far: 0, the next one to the largest, the
+/// former largest and the next one to it, any between.
+pub fn bad_limit(rng: &mut Rng) -> i64 {
+    match rng.below(8) {
+        0 | 1 => 0,
+        2 | 3 => LARGEST_LIMIT + 1,
+        4 | 5 => FORMER_LIMIT,
+        6 => FORMER_LIMIT + 1,
+        _ => rng.between(LARGEST_LIMIT + 1, FORMER_LIMIT),
+    }
+}
+
 /// An operand outside the range of the criterion.
 fn bad_operand(rng: &mut Rng, settings: &[i64; 6]) -> i64 {
     let (low, high) = match settings[CRITERION] {
@@ -80,9 +96,11 @@ pub fn spoil_setting(rng: &mut Rng, place: usize, settings: &mut [i64; 6]) {
     settings[place] = match place {
         M => bad_m(rng),
         CEILING => bad_ceiling(rng),
+        LIMIT if rng.chance(20) => far(rng, 1),
+        LIMIT => bad_limit(rng),
         OPERAND => bad_operand(rng, settings),
         _ => {
-            let (low, high) = [(1, 16), (1, 200), (0, 4)][place - SCALE];
+            let (low, high) = if place == SCALE { (1, 16) } else { (0, 4) };
             match rng.below(3) {
                 0 if low == 1 => 0,
                 0 | 1 => high + rng.between(1, 2),
@@ -199,15 +217,16 @@ pub fn good_decode(rng: &mut Rng, m: i64) -> DecodePlan {
 
 pub fn spoil_decode(rng: &mut Rng, call: &mut DecodePlan) {
     let n = call.plan.mask.len();
-    match rng.below(13) {
+    match rng.below(14) {
         place @ 0..=5 => spoil_setting(rng, place, &mut call.plan.settings),
-        6 | 7 => {
+        6 => spoil_setting(rng, LIMIT, &mut call.plan.settings),
+        7 | 8 => {
             let slice = rng.below(7);
             call.lengths[slice] = short(rng, needs(&call.plan)[slice]);
         }
-        8 | 9 => call.plan.mask[rng.below(n)] = i64::from(bad_bit(rng)),
-        10 => call.plan.mask.fill(1),
-        11 => call.plan.llr[rng.below(n)] = bad_llr(rng, call.plan.settings[CEILING]),
+        9 | 10 => call.plan.mask[rng.below(n)] = i64::from(bad_bit(rng)),
+        11 => call.plan.mask.fill(1),
+        12 => call.plan.llr[rng.below(n)] = bad_llr(rng, call.plan.settings[CEILING]),
         _ if rng.chance(40) => call.settings_len = rng.below(6),
         _ => call.plan.llr[rng.below(n)] = bad_llr(rng, call.plan.settings[CEILING]),
     }

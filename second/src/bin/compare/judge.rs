@@ -1,6 +1,7 @@
 //! Makes calls on both sides, compares everything and counts the answers.
 
 use crate::agree::{disagreement, Named};
+use crate::bounds::events;
 use crate::calls::{Call, DecodeCall};
 #[cfg(feature = "selftest")]
 use crate::selftest::both_wrong;
@@ -80,6 +81,9 @@ impl Judge {
     /// `check_named` for the decoder, which also counts how it ended.
     pub fn check_decode(&mut self, call: &DecodeCall) -> Result<(u32, DecodeCall), Difference> {
         let (answer, after) = self.check_named(call)?;
+        for name in events(call, answer, &after) {
+            self.count_event(&name);
+        }
         if answer == 0 {
             let settings = after.settings.slice();
             let row = &mut self.endings[settings[4] as usize];

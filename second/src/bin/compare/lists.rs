@@ -3,8 +3,10 @@
 use crate::damage::damage;
 use crate::generate::fault_count;
 use crate::rng::Rng;
+use crate::tallies::{draw_iterations, most_iterations};
 use crate::texts::{widen_line, LONG};
 use second::summary::LIST_NAMES;
+use second::LARGEST_LIMIT;
 
 /// Radio, blocks, by criterion, by limit, refusals, iterations.
 type Row = [i64; 6];
@@ -84,12 +86,14 @@ fn in_proportion(rng: &mut Rng) -> [i64; 4] {
         1 => blocks,
         _ => criterion,
     };
-    let iterations = rng.pick(&[1, 1, 2, 3, 7]) * blocks + rng.pick(&[0, 0, 0, 1, -1]);
+    // So many to a block as the last one says only old tallies have.
+    let to_a_block = rng.pick(&[1, 1, 2, 3, 7, LARGEST_LIMIT + 1]);
+    let iterations = to_a_block * blocks + rng.pick(&[0, 0, 0, 1, -1]);
     [
         blocks,
         criterion,
         endings,
-        iterations.clamp(endings, 200 * endings),
+        iterations.clamp(endings, most_iterations(endings)),
     ]
 }
 
@@ -112,7 +116,7 @@ fn at_a_half(rng: &mut Rng) -> [i64; 4] {
         blocks,
         criterion,
         endings,
-        iterations.clamp(endings, 200 * endings),
+        iterations.clamp(endings, most_iterations(endings)),
     ]
 }
 
@@ -127,7 +131,7 @@ fn nearly_full(rng: &mut Rng) -> [i64; 4] {
     let endings = blocks - rng.pick(&[0, 0, 1, 2]).min(blocks - criterion);
     let iterations = match rng.below(3) {
         0 => endings,
-        1 => 200 * endings - rng.between(0, 2),
+        1 => most_iterations(endings) - rng.between(0, 2),
         _ => 3 * blocks + rng.between(-2, 2),
     };
     [blocks, criterion, endings, iterations]
@@ -139,12 +143,7 @@ fn any_numbers(rng: &mut Rng) -> [i64; 4] {
     let blocks = rng.between(0, most);
     let endings = rng.between(0, blocks);
     let criterion = rng.between(0, endings);
-    let iterations = match rng.below(3) {
-        0 => endings,
-        1 => 200 * endings,
-        _ => rng.between(endings, 200 * endings),
-    };
-    [blocks, criterion, endings, iterations]
+    [blocks, criterion, endings, draw_iterations(rng, endings)]
 }
 
 /// Puts a row, mostly the one at this place, out of order, or one of its numbers
@@ -161,7 +160,7 @@ fn spoil_rows(rng: &mut Rng, rows: &mut Vec<Row>, place: usize) {
         4 => rows.insert(place, rows[other]),
         5 => row[BLOCKS] += rng.pick(&[-1, 1]),
         6 => row[ITERATIONS] = endings - 1,
-        7 => row[ITERATIONS] = 200 * endings + 1,
+        7 => row[ITERATIONS] = most_iterations(endings) + 1,
         8 | 9 => {
             // The blocks are full, or one more, and add up.
             row[BLOCKS] = (FULL + rng.below(2) as i64).max(endings);

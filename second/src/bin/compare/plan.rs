@@ -1,9 +1,10 @@
 //! Good blocks to decode: settings, mask and LLRs that nobody refuses.
 
+use crate::late::redraw_ending_late;
 use crate::resting::{redraw_resting_on_frozen, redraw_resting_on_last};
 use crate::rng::Rng;
 use second::decode::{decode_wide, Decoded};
-use second::Settings;
+use second::{Settings, LARGEST_LIMIT};
 
 /// Numbers of a block, wide enough for the wrong ones too.
 #[derive(Clone)]
@@ -44,12 +45,13 @@ pub fn draw_ceiling(rng: &mut Rng) -> i64 {
     }
 }
 
+/// Any limit, small ones and the largest more often.
 fn draw_limit(rng: &mut Rng) -> i64 {
     match rng.below(20) {
         0 => 1,
-        1 => 200,
-        2 => rng.between(60, 200),
-        3..=8 => rng.between(2, 6),
+        1..=3 => LARGEST_LIMIT,
+        4 => rng.between(26, LARGEST_LIMIT),
+        5..=9 => rng.between(2, 6),
         _ => rng.between(5, 25),
     }
 }
@@ -87,26 +89,33 @@ pub fn good_plan(rng: &mut Rng, m: i64) -> Plan {
         0..=34 if m <= 8 => aim(rng, &mut plan),
         35..=44 if (2..=5).contains(&m) => redraw_resting_on_frozen(rng, &mut plan),
         45..=49 if (2..=5).contains(&m) => redraw_resting_on_last(rng, &mut plan),
+        50..=59 if m == 2 => redraw_ending_late(rng, &mut plan),
         _ => {}
     }
     plan
 }
 
 /// Decodes a good plan.
-fn decoded(plan: &Plan) -> Option<Decoded> {
+pub fn decoded(plan: &Plan) -> Option<Decoded> {
     decode_wide(&Settings::from_list(plan.settings), &plan.mask, &plan.llr).ok()
+}
+
+/// The least size of a soft output after so many iterations of a good plan, but
+/// at least 1.
+pub fn least_size(plan: &Plan, iterations: i64) -> i64 {
+    let mut trial = plan.clone();
+    trial.settings[LIMIT] = iterations;
+    trial.settings[CRITERION] = 0;
+    trial.settings[OPERAND] = 0;
+    let least = decoded(&trial).and_then(|d| d.outputs.soft.iter().map(|v| v.abs()).min());
+    least.unwrap_or(1).max(1)
 }
 
 /// Moves an operand of criterion 2 or 4 to where it just holds after some
 /// iterations, and the limit to the ending or just before it.
 fn aim(rng: &mut Rng, plan: &mut Plan) {
     if matches!(plan.settings[CRITERION], 2 | 4) {
-        let mut trial = plan.clone();
-        trial.settings[LIMIT] = rng.between(2, 8);
-        trial.settings[CRITERION] = 0;
-        trial.settings[OPERAND] = 0;
-        let least = decoded(&trial).and_then(|d| d.outputs.soft.iter().map(|v| v.abs()).min());
-        plan.settings[OPERAND] = least.unwrap_or(1).max(1);
+        plan.settings[OPERAND] = least_size(plan, rng.between(2, 8));
     }
     let Some(decoded) = decoded(plan).filter(|d| d.ending.reason == 1) else {
         return;

@@ -3,7 +3,7 @@
 //! fault that it then has; `compare` must find each of them. With
 //! VEDROGNE_BOTH_WRONG both sides have it.
 
-use crate::{selftest_criteria, selftest_frozen, selftest_scaling};
+use crate::{selftest_criteria, selftest_frozen, selftest_limits, selftest_scaling};
 use second::{Channel, Lent, Refusal, Settings};
 use std::slice::{from_raw_parts, from_raw_parts_mut};
 use std::sync::OnceLock;
@@ -206,6 +206,7 @@ impl Decoding<'_> {
             settings.check()?;
             return Err(Refusal::Llr);
         }
+        let settings = &selftest_limits::taken_as("decode", settings);
         let settings = &selftest_criteria::taken_as(settings);
         let (block, lent) = ((self.mask, self.llr), &mut self.lent);
         let ending = second::decode(settings, self.mask, self.llr, lent)?;
@@ -213,6 +214,9 @@ impl Decoding<'_> {
         let mut ending = selftest_criteria::with_faults(settings, block, lent, ending)?;
         selftest_frozen::put_faults(settings, self.mask, lent);
         if wrong("reason_at_limit") && i64::from(ending.iterations) == settings.limit {
+            ending.reason = 2;
+        }
+        if wrong("decode_limit_64_reason") && ending.iterations == 64 {
             ending.reason = 2;
         }
         if wrong("past_end") && self.lent.soft.len() > 1 << settings.m {

@@ -2,7 +2,8 @@
 
 use crate::radio_draws::NUMBERS;
 use crate::selftest::{slice, slice_mut, wrong, Decoding};
-use second::{Lent, Tally};
+use crate::tallies::is_old;
+use second::{Lent, Tally, MOST_ITERATIONS};
 
 /// # Safety
 /// As in the C interface.
@@ -132,13 +133,33 @@ fn may_count(radio: usize, tallies: &[u32]) -> bool {
         return tally.blocks < 1_000_000
             && tally.blocks == endings.wrapping_add(tally.refusals)
             && tally.iterations >= endings
-            && tally.iterations <= endings.wrapping_mul(200);
+            && tally.iterations <= endings.wrapping_mul(MOST_ITERATIONS as u32);
     }
     // Wrong: one block more.
     if wrong("tally_full") && tally.blocks == 1_000_000 {
         return true;
     }
-    tally.may_count()
+    most_iterations(&tally).map_or(tally.may_count(), |most| {
+        let endings = tally.reason1.wrapping_add(tally.reason2);
+        let fewest = Tally {
+            iterations: endings,
+            ..tally
+        };
+        fewest.may_count() && (u64::from(endings)..=most).contains(&u64::from(tally.iterations))
+    })
+}
+
+/// The bound of the iterations, with the fault that is asked for.
+fn most_iterations(tally: &Tally) -> Option<u64> {
+    let endings = u64::from(tally.reason1) + u64::from(tally.reason2);
+    let most = MOST_ITERATIONS * endings;
+    match () {
+        // Wrong: that of the limit; an iteration less, or one more.
+        _ if wrong("tally_64_iterations") => Some(64 * endings),
+        _ if wrong("tally_one_iteration_less") => Some(most.saturating_sub(1)),
+        _ if wrong("tally_one_iteration_more") => Some(most + 1),
+        _ => None,
+    }
 }
 
 /// Adds to a number of a radio, where the list has it.
@@ -175,6 +196,11 @@ fn count(radio: usize, tallies: &mut [u32], answer: u32, (iterations, reason): (
         add(radio, tallies, 3, 1);
     }
     add(radio, tallies, 0, 1);
+    // Wrong: an old tally loses what the limit can't have led to.
+    let tally = tally_of(radio, tallies);
+    if wrong("tally_old_cut") && is_old(&tally) {
+        tallies[5 * radio + 4] = 64 * (tally.reason1 + tally.reason2);
+    }
 }
 
 /// Puts the faults that are asked for into the tallies of a refused call.

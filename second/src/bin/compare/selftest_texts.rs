@@ -3,6 +3,7 @@
 use crate::selftest::{slice, slice_mut, wrong};
 use crate::selftest_criteria::report_to_limit;
 use crate::selftest_frozen::report_of_sums;
+use crate::selftest_limits::{taken_as, text_taken_as};
 use crate::text_calls::REPORT_ROOM;
 use second::code::{require_lengths, widen};
 use second::text::{accepted, Block, SETTING_NAMES};
@@ -37,7 +38,7 @@ unsafe extern "C" fn vedrogne_read(
     let Some(settings) = settings.first_chunk_mut::<6>() else {
         return 7;
     };
-    match second::read(text, mask, llr) {
+    match second::read(&text_taken_as("read", text), mask, llr) {
         // Wrong: the decoder has a criterion that the reader refuses.
         Ok(read) if wrong("read_criterion_4") && read.criterion == 4 => 5,
         Ok(read) => {
@@ -91,7 +92,7 @@ unsafe extern "C" fn vedrogne_write(
 
 /// Writes, with the faults that are asked for.
 fn write(list: &[u32; 6], mask: &[u8], llr: &[i16], text: &mut [u8]) -> Result<usize, Refusal> {
-    let settings = Settings::from_list(list.map(setting));
+    let settings = taken_as("write", &Settings::from_list(list.map(setting)));
     // Wrong: 7 for the text before 8 to 10.
     if wrong("text_early") {
         let n = settings.check()?;
@@ -183,7 +184,7 @@ unsafe extern "C" fn vedrogne_report(
     } else if wrong("report_criterion_4") {
         report_to_limit(text)
     } else {
-        second::report(text)
+        second::report(&text_taken_as("report", text))
     };
     out[..report.len()].copy_from_slice(&report);
     *written = report.len();

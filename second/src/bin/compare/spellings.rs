@@ -14,6 +14,7 @@ use crate::text_calls::{ReadCall, ReportCall, REPORT_ROOM};
 use crate::text_draws::{block_of, build_write};
 use crate::texts::spelled;
 use second::tidy::tidy_text;
+use second::LARGEST_LIMIT;
 
 /// Draws a block, spells it in two ways, and another block beside it.
 pub fn check(rng: &mut Rng, judge: &mut Judge) -> Result<(), Difference> {
@@ -106,7 +107,7 @@ fn neighbour(rng: &mut Rng, plan: &Plan) -> Plan {
     let mut other = plan.clone();
     let place = rng.below(plan.mask.len());
     match rng.below(4) {
-        0 => other.settings[LIMIT] = 1 + plan.settings[LIMIT] % 200,
+        0 => other.settings[LIMIT] = 1 + plan.settings[LIMIT] % LARGEST_LIMIT,
         1 => other.settings[SCALE] = 1 + plan.settings[SCALE] % 16,
         2 => {
             other.mask[place] = 1 - plan.mask[place];

@@ -1,17 +1,38 @@
 //! Tallies that a call may be counted in, and such as are refused with 15.
 
 use crate::rng::Rng;
-use second::Tally;
+use second::{Tally, LARGEST_LIMIT, MOST_ITERATIONS};
 
-/// A right tally of the given number of endings and refusals, with iterations
-/// at a bound or between.
+/// The most iterations that so many endings can have.
+pub fn most_iterations(endings: i64) -> i64 {
+    MOST_ITERATIONS as i64 * endings
+}
+
+/// Iterations that so many endings can have, at a bound or between: most often
+/// as many as only a tally has that is older than the largest limit.
+pub fn draw_iterations(rng: &mut Rng, endings: i64) -> i64 {
+    let (today, most) = (LARGEST_LIMIT * endings, most_iterations(endings));
+    match rng.below(8) {
+        0 => endings,
+        1 => today,
+        2 => most.min(today + 1),
+        3 | 4 => rng.between(today, most),
+        5 | 6 => most,
+        _ => rng.between(endings, most),
+    }
+}
+
+/// Whether a tally can be counted on and has more iterations than calls under
+/// the largest limit can have led to.
+pub fn is_old(tally: &Tally) -> bool {
+    let endings = i64::from(tally.reason1) + i64::from(tally.reason2);
+    tally.may_count() && i64::from(tally.iterations) > LARGEST_LIMIT * endings
+}
+
+/// A right tally of the given number of endings and refusals.
 fn right(rng: &mut Rng, endings: i64, refusals: i64) -> [i64; 5] {
     let reason1 = rng.between(0, endings);
-    let iterations = match rng.below(3) {
-        0 => endings,
-        1 => 200 * endings,
-        _ => rng.between(endings, 200 * endings),
-    };
+    let iterations = draw_iterations(rng, endings);
     let blocks = endings + refusals;
     [blocks, reason1, endings - reason1, refusals, iterations]
 }
@@ -36,7 +57,7 @@ fn any_right(rng: &mut Rng) -> [i64; 5] {
 fn at_a_bound(rng: &mut Rng) -> [i64; 5] {
     let mut tally = any_right(rng);
     let endings = tally[1] + tally[2];
-    match rng.below(6) {
+    match rng.below(7) {
         0 => {
             let over = 1_000_000 + rng.below(2) as i64;
             let endings = rng.pick(&[0, 1, 500_000, over]);
@@ -44,8 +65,8 @@ fn at_a_bound(rng: &mut Rng) -> [i64; 5] {
         }
         1 => tally[0] += rng.pick(&[-1, 1]),
         2 => tally[4] = endings - 1,
-        3 => tally[4] = 200 * endings + 1,
-        4 => tally[rng.below(4)] += rng.pick(&[-1, 1]),
+        3 | 4 => tally[4] = most_iterations(endings) + 1,
+        5 => tally[rng.below(4)] += rng.pick(&[-1, 1]),
         _ => tally[rng.below(5)] = rng.between(0xffff_fff0, 0xffff_ffff),
     }
     tally

@@ -1,9 +1,9 @@
 //! Random calls that read and write texts, with every length around what is
 //! needed.
 
-use crate::generate::{bytes, draw_decode, enough};
+use crate::generate::{bad_limit, bytes, draw_decode, enough};
 use crate::memory::Fenced;
-use crate::plan::{draw_m, Plan};
+use crate::plan::{draw_m, Plan, LIMIT};
 use crate::rng::Rng;
 use crate::text_calls::{ReadCall, ReportCall, WriteCall, REPORT_ROOM};
 use crate::texts::draw_text;
@@ -69,6 +69,9 @@ pub fn draw_write(rng: &mut Rng) -> WriteCall {
     let mut drawn = draw_decode(rng, m);
     if rng.chance(15) {
         set_extreme(rng, &mut drawn.plan);
+    }
+    if rng.chance(10) {
+        drawn.plan.settings[LIMIT] = bad_limit(rng);
     }
     if rng.chance(10) {
         drawn.lengths[rng.below(2)] = around(rng, 1 << m);

@@ -1,10 +1,11 @@
 //! Texts of blocks, good ones and damaged ones.
 
 use crate::damage::damage;
-use crate::generate::fault_count;
-use crate::plan::{draw_m, good_plan, Plan, CEILING};
+use crate::generate::{bad_limit, fault_count};
+use crate::plan::{draw_m, good_plan, Plan, CEILING, LIMIT};
 use crate::rng::Rng;
 use second::text::{MOST_BYTES, POSITION_NAMES, SETTING_NAMES};
+use second::LARGEST_LIMIT;
 
 /// Sizes of long texts, most of them at the bound.
 pub const LONG: [usize; 6] = [
@@ -26,7 +27,7 @@ pub struct Drawn {
 pub fn draw_text(rng: &mut Rng) -> Drawn {
     let m = draw_m(rng);
     let mut plan = good_plan(rng, m);
-    // Good; wrong numbers; damaged; both.
+    // Good; wrong numbers; damaged; both. The limit is wrong more often.
     let (faults, damages) = match rng.below(100) {
         0..=24 => (0, 0),
         25..=54 => (1 + fault_count(rng), 0),
@@ -35,6 +36,9 @@ pub fn draw_text(rng: &mut Rng) -> Drawn {
     };
     for _ in 0..faults {
         spoil_numbers(rng, &mut plan);
+    }
+    if rng.chance(10) {
+        plan.settings[LIMIT] = bad_limit(rng);
     }
     let mut lines = write_lines(rng, &plan);
     if rng.chance(8) {
@@ -63,11 +67,17 @@ fn spoil_numbers(rng: &mut Rng, plan: &mut Plan) {
     ]);
     let place = rng.below(plan.mask.len());
     let ceiling = plan.settings[CEILING];
-    match rng.below(10) {
+    match rng.below(12) {
         0..=2 => plan.settings[rng.below(6)] = wild,
         3 | 4 => {
-            let operand = rng.pick(&[9, ceiling + 1]);
-            let edges = [(0, 11), (0, 2048), (0, 17), (0, 201), (5, 6), (0, operand)];
+            let edges = [
+                (0, 11),
+                (0, 2048),
+                (0, 17),
+                (0, LARGEST_LIMIT + 1),
+                (5, 6),
+                (0, rng.pick(&[9, ceiling + 1])),
+            ];
             let setting = rng.below(6);
             let (low, high) = edges[setting];
             plan.settings[setting] = if rng.chance(50) { low } else { high };
@@ -76,6 +86,7 @@ fn spoil_numbers(rng: &mut Rng, plan: &mut Plan) {
         6 => plan.mask[place] = 2,
         7 => plan.mask.fill(1),
         8 => plan.llr[place] = wild,
+        9 | 10 => plan.settings[LIMIT] = bad_limit(rng),
         _ => plan.llr[place] = rng.pick(&[ceiling + 1, -ceiling - 1, -32_768, 32_767]),
     }
 }
