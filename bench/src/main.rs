@@ -12,8 +12,8 @@ const NAMES: [&str; 4] = [
     "baseline (C -O3)",
 ];
 
-/// A round is so many calls, each of as many iterations as a call can have: at small m one call alone would be too short
-/// to time.
+/// A round is so many calls, each of as many iterations as a call can have: at small m one call alone would be too
+/// short to time.
 const CALLS: u32 = 4;
 const LARGEST_LIMIT: u32 = 64;
 

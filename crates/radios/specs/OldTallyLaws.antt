@@ -23,7 +23,8 @@ old-tally-accepted radio tallies known old =
     rw (lt-ltb radio radioCount known) (same-number (tallyOf radio tallies) ∙ old)
 
 -- so the call is answered as the decoder answers it, counted in the old tally and in no other, and written
-pub old-radio-goes-on : (radios : Radios) (radio : ℕ) (c : Call) (after : Slices) (r : RadioTallied) → radio < radioCount
+pub old-radio-goes-on : (radios : Radios) (radio : ℕ) (c : Call) (after : Slices) (r : RadioTallied)
+    → radio < radioCount
     → oldTallyNumber (tallyOf radio (radios .tallies)) ≡ 0
     → RadioDecode radios radio (c .settings) (c .mask) (c .llr) (c .slices) after r
     → (resultOf (r .outcome) ≡ decoded c)

@@ -18,7 +18,7 @@ oldTallyNumber t =
     check (ltb (t .blocks) 1000000) 15
     (check (eqb (t .blocks) (endings t + t .refusals) && between (endings t) (200 * endings t) (t .iterations)) 15 0)
 
--- the answer of a call before the request: the same ending, where its limit passed
+-- the answer of a call before the request: by the number that it had, and with the same ending
 abbrev pub oldDecoded : Call → Result
 oldDecoded c =
     resultBy (oldDecodeNumber (c .settings) (c .mask) (c .llr) (lengthsOf (c .slices)))

@@ -1,6 +1,6 @@
 -- Request 2026-07: "A tally's own check keeps its bound of 200, so that old tallies can go on."
-use Prim.Native.Nat.{ℕ, zero, suc, _+_, _≤_}
-use mathlib.Core.Path.{_≡_, refl, sym, ap, _∙_}
+use Prim.Native.Nat.{ℕ, _+_, _≤_}
+use mathlib.Core.Path.{_≡_, refl, ap, _∙_}
 use mathlib.Core.Bool.{Bool, cond}
 use mathlib.Core.List.{List, [], _∷_, map}
 use lib.ListN.{length}
@@ -45,16 +45,17 @@ module _ (t : Tally) (old : oldTallyNumber t ≡ 0) where
       → TalliedDecode t (c .settings) (c .mask) (c .llr) (c .slices) after r → GoesOn t c after r
   old-tally-goes-on c after r d =
       let accepted = same-number t ∙ old in
+      let written = decodeSlices (c .settings) (c .mask) (c .llr) (c .slices) in
       let tally = d .tally-is ∙ ap (λ (n : ℕ). tallyBy n t (decoded c)) accepted in
       record {
         answer = d .answer ∙ ap (λ (n : ℕ). answerBy n (decoded c)) accepted;
         tally-is = tally;
-        slices = d .slices ∙ ap (λ (n : ℕ). unlessRefused n (decodeSlices (c .settings) (c .mask) (c .llr) (c .slices)) (c .slices)) accepted;
+        slices = d .slices ∙ ap (λ (n : ℕ). unlessRefused n written (c .slices)) accepted;
         next = λ few. ap tallyNumber tally ∙ counted-usable t c accepted few;
       }
 
-  -- and so do all calls of a run, up to 1,000,000 blocks: none is refused with 15, and the tally afterwards is the old one
-  -- with the counts over their answers added
+  -- and so do all calls of a run, up to 1,000,000 blocks: none is refused with 15, and the tally afterwards is the old
+  -- one with the counts over their answers added
   pub old-tally-run : (calls : List Call) → t .blocks + length calls ≤ 1000000
       → (answers t calls ≡ map decoded calls) × (tallyAfter t calls ≡ plus t (countsOver (map decoded calls)))
   old-tally-run calls few =

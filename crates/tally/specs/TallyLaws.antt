@@ -219,7 +219,8 @@ pub answer-counts : (r : Result) → DecoderAnswer r → counts r ≡ true
 answer-counts (refused number) d = rw (ne-eqb number 15 (λ e. omega arith))
 answer-counts (ended iteration reason) d = refl
 
-pub counted-after : (calls : List Call) (t : Tally) → tallyAfter t calls ≡ plus t (countsOver (others (answers t calls)))
+pub counted-after : (calls : List Call) (t : Tally)
+    → tallyAfter t calls ≡ plus t (countsOver (others (answers t calls)))
 counted-after [] t = same-tally (omega arith) (omega arith) (omega arith) (omega arith) (omega arith)
 counted-after (c ∷ calls) t = by-number (tallyNumber t) refl (λ u. counted-after calls u)
   where
