@@ -1,6 +1,7 @@
 /* The baseline of the benchmark: message passing as document 01 defines it, hand-tuned in block loops that the compiler
-   vectorises, with the distances 1, 2, 4 and 8 as constants; and the fronts for one antenna and for two, in plain
-   loops. Built with -O3. It tests nothing: the benchmark hands it what the proved decoder and fronts accept. */
+   vectorises, with the distances 1, 2, 4 and 8 as constants; and the coder, the read-out and the fronts for one antenna
+   and for two, in plain loops. Built with -O3. It tests nothing, save two fronts at the end that test their samples:
+   the benchmark hands it what the proved functions accept. */
 #include <math.h>
 #include <stddef.h>
 #include <stdint.h>
@@ -121,6 +122,25 @@ uint32_t baseline_decode(unsigned m, int16_t top, int16_t k, uint32_t limit, uin
     }
 }
 
+void baseline_encode(unsigned m, const uint8_t *restrict mask, const uint8_t *restrict message,
+                     uint8_t *restrict block) {
+    size_t n = (size_t)1 << m, next = 0;
+    for (size_t i = 0; i < n; i++)
+        block[i] = mask[i] ? 0 : message[next++];
+    for (size_t d = n / 2; d > 0; d /= 2)
+        for (size_t p = 0; p < n; p += 2 * d)
+            for (size_t i = 0; i < d; i++)
+                block[p + i] ^= block[p + d + i];
+}
+
+void baseline_read_out(unsigned m, const uint8_t *restrict mask, const uint8_t *restrict bits,
+                       uint8_t *restrict message) {
+    size_t n = (size_t)1 << m, next = 0;
+    for (size_t i = 0; i < n; i++)
+        if (!mask[i])
+            message[next++] = bits[i];
+}
+
 /* one comparison after the other, so that they become a packed minimum and a packed maximum */
 ALWAYS float cut(float value, float top) {
     float low = value < top ? value : top;
@@ -133,19 +153,42 @@ ALWAYS int16_t whole(float value, float top) {
     return (int16_t)(cut(value, top) + copysignf(0x1.fffffep-2f, value));
 }
 
-void baseline_front_gaussian(unsigned m, int16_t top, float factor, const float *restrict samples,
-                             int16_t *restrict llr) {
+/* The fronts return 0, or, where they test, the number of the refusal. */
+uint32_t baseline_front_gaussian(unsigned m, int16_t top, float factor, const float *restrict samples,
+                                 int16_t *restrict llr) {
     size_t n = (size_t)1 << m;
     for (size_t i = 0; i < n; i++)
         llr[i] = whole(samples[i] * factor, top);
+    return 0;
 }
 
 /* What each branch's product is cut to. As a constant it would keep the compiler from a minimum and a maximum. */
 float branch_top = 4096;
 
-void baseline_front_two(unsigned m, int16_t top, float first_factor, float second_factor,
-                        const float *restrict first, const float *restrict second, int16_t *restrict llr) {
+uint32_t baseline_front_two(unsigned m, int16_t top, float first_factor, float second_factor,
+                            const float *restrict first, const float *restrict second, int16_t *restrict llr) {
     size_t n = (size_t)1 << m;
     for (size_t i = 0; i < n; i++)
         llr[i] = whole(cut(first[i] * first_factor, branch_top) + cut(second[i] * second_factor, branch_top), top);
+    return 0;
+}
+
+static int all_finite(const float *samples, size_t n) {
+    int other = 0;
+    for (size_t i = 0; i < n; i++)
+        other |= !isfinite(samples[i]);
+    return !other;
+}
+
+uint32_t tested_front_gaussian(unsigned m, int16_t top, float factor, const float *restrict samples,
+                               int16_t *restrict llr) {
+    return all_finite(samples, (size_t)1 << m) ? baseline_front_gaussian(m, top, factor, samples, llr) : 12;
+}
+
+uint32_t tested_front_two(unsigned m, int16_t top, float first_factor, float second_factor,
+                          const float *restrict first, const float *restrict second, int16_t *restrict llr) {
+    size_t n = (size_t)1 << m;
+    if (!all_finite(first, n) || !all_finite(second, n))
+        return 12;
+    return baseline_front_two(m, top, first_factor, second_factor, first, second, llr);
 }

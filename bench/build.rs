@@ -1,29 +1,31 @@
-// Compiles the C baseline with -O3 and links it and the proved library, whose archive VEDROGNE_LIB names.
+// Compiles the C decoders with -O3 and links them and the proved library, whose archive VEDROGNE_LIB names.
 use std::env;
 use std::path::Path;
 use std::process::Command;
 
-fn main() {
-    println!("cargo:rerun-if-changed=baseline.c");
-    println!("cargo:rerun-if-env-changed=VEDROGNE_LIB");
-    let out = env::var("OUT_DIR").unwrap();
-    let object = Path::new(&out).join("baseline.o");
+/// Compiles a source with these flags beside the usual ones and links the object.
+fn compile(source: &str, flags: &[&str], object: &str) {
+    println!("cargo:rerun-if-changed={source}");
+    let object = Path::new(&env::var("OUT_DIR").unwrap()).join(object);
     let built = Command::new("cc")
-        .args([
-            "-std=c99",
-            "-O3",
-            "-Wall",
-            "-Wextra",
-            "-c",
-            "baseline.c",
-            "-o",
-        ])
+        .args(["-std=c99", "-O3", "-Wall", "-Wextra"])
+        .args(flags)
+        .args(["-c", source, "-o"])
         .arg(&object)
         .status();
     assert!(built.is_ok_and(|status| status.success()), "cc failed");
+    println!("cargo:rustc-link-arg={}", object.display());
+}
+
+fn main() {
+    println!("cargo:rerun-if-env-changed=VEDROGNE_LIB");
+    compile("baseline.c", &[], "baseline.o");
+    // the sums stay in the order in which sse2.c has them
+    let order = "-fno-tree-reassoc";
+    compile("sse2.c", &[order], "sse2.o");
+    compile("sse2.c", &[order, "-DSIGNED_PRODUCT"], "sse2_signed.o");
     let library =
         env::var("VEDROGNE_LIB").expect("VEDROGNE_LIB: the archive of the proved library");
     println!("cargo:rerun-if-changed={library}");
-    println!("cargo:rustc-link-arg={}", object.display());
     println!("cargo:rustc-link-arg={library}");
 }

@@ -1,6 +1,7 @@
 //! What the benchmark and the curves share: blocks to decode, the proved decoder and fronts behind
 //! their C interface, and the others.
 pub mod blocks;
+pub mod coder;
 pub mod fronts;
 pub mod noise;
 pub mod plain;
@@ -79,20 +80,6 @@ extern "C" {
         work_len: usize,
         iterations: *mut u32,
         reason: *mut u32,
-    ) -> u32;
-    fn baseline_decode(
-        m: u32,
-        top: i16,
-        k: i16,
-        limit: u32,
-        criterion: u32,
-        mask: *const u8,
-        llr: *const i16,
-        soft: *mut i16,
-        mark: *mut u8,
-        coded_soft: *mut i16,
-        coded_mark: *mut u8,
-        work: *mut i16,
     ) -> u32;
 }
 
@@ -197,36 +184,98 @@ pub fn proved_for_radio(
     iterations
 }
 
-/// The C baseline, under criterion 0 or 1; the iteration at which it ends.
-pub fn baseline(block: &Block, criterion: u32, limit: u32, to: &mut Lent) -> u32 {
-    // SAFETY: every vector has the elements that m asks for
-    unsafe {
-        baseline_decode(
-            block.m as u32,
-            block.ceiling,
-            block.scale,
-            limit,
-            criterion,
-            block.mask.as_ptr(),
-            block.llr.as_ptr(),
-            to.soft.as_mut_ptr(),
-            to.mark.as_mut_ptr(),
-            to.coded_soft.as_mut_ptr(),
-            to.coded_mark.as_mut_ptr(),
-            to.work.as_mut_ptr(),
-        )
+/// A decoder under criterion 0 or 1 with a limit; the iteration at which it ends.
+pub type Decoder = fn(&Block, u32, u32, &mut Lent) -> u32;
+
+macro_rules! c_decoder {
+    ($(#[$about:meta])* $name:ident, $symbol:ident) => {
+        $(#[$about])*
+        pub fn $name(block: &Block, criterion: u32, limit: u32, to: &mut Lent) -> u32 {
+            extern "C" {
+                fn $symbol(
+                    m: u32,
+                    top: i16,
+                    k: i16,
+                    limit: u32,
+                    criterion: u32,
+                    mask: *const u8,
+                    llr: *const i16,
+                    soft: *mut i16,
+                    mark: *mut u8,
+                    coded_soft: *mut i16,
+                    coded_mark: *mut u8,
+                    work: *mut i16,
+                ) -> u32;
+            }
+            // SAFETY: every vector has the elements that m asks for
+            unsafe {
+                $symbol(
+                    block.m as u32,
+                    block.ceiling,
+                    block.scale,
+                    limit,
+                    criterion,
+                    block.mask.as_ptr(),
+                    block.llr.as_ptr(),
+                    to.soft.as_mut_ptr(),
+                    to.mark.as_mut_ptr(),
+                    to.coded_soft.as_mut_ptr(),
+                    to.coded_mark.as_mut_ptr(),
+                    to.work.as_mut_ptr(),
+                )
+            }
+        }
+    };
+}
+
+c_decoder!(
+    /// The C baseline.
+    baseline,
+    baseline_decode
+);
+c_decoder!(
+    /// The decoder written by hand with SSE2 intrinsics, which scales sizes.
+    sse2,
+    sse2_decode
+);
+c_decoder!(
+    /// The same with the signed product.
+    sse2_signed,
+    sse2_signed_decode
+);
+
+/// A mask of rate one half.
+pub fn half(m: usize) -> Vec<u8> {
+    noise::mask(m, 1 << (m - 1), 2.0)
+}
+
+/// A block with this mask after a Gaussian channel, at a ratio Eb/N0 for rate one half.
+pub fn noisy(mask: &[u8], db: f64, random: &mut Random) -> Block {
+    let ceiling = 2047;
+    Block {
+        m: mask.len().ilog2() as usize,
+        ceiling,
+        scale: 15,
+        mask: mask.to_vec(),
+        llr: noise::llrs(mask.len(), db, 16.0, ceiling, random),
     }
 }
 
-/// A block of rate one half after a Gaussian channel.
-pub fn noisy(m: usize, db: f64, random: &mut Random) -> Block {
-    let ceiling = 2047;
+/// A block that no channel makes: ceiling, scale, mask and LLRs are drawn evenly, with one information position at
+/// least.
+pub fn arbitrary(m: usize, random: &mut Random) -> Block {
+    let n = 1 << m;
+    let ceiling = 1 + random.below(2047) as i16;
+    let mut mask: Vec<u8> = (0..n).map(|_| random.below(2) as u8).collect();
+    mask[random.below(n) as usize] = 0;
     Block {
         m,
         ceiling,
-        scale: 15,
-        mask: noise::mask(m, 1 << (m - 1), 2.0),
-        llr: noise::llrs(1 << m, db, 16.0, ceiling, random),
+        scale: 1 + random.below(16) as i16,
+        mask,
+        llr: (0..n)
+            .map(|_| random.below(2 * ceiling as u64 + 1) as i16 - ceiling)
+            .collect(),
     }
 }
 

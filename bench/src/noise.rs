@@ -19,6 +19,11 @@ impl Random {
         ((self.word() >> 11) + 1) as f64 / (1u64 << 53) as f64
     }
 
+    /// Below `end`, and as good as evenly: `end` is small beside 2^64.
+    pub fn below(&mut self, end: u64) -> u64 {
+        self.word() % end
+    }
+
     /// A normal variate, by Box and Muller.
     pub fn normal(&mut self) -> f64 {
         (-2.0 * self.unit().ln()).sqrt() * (2.0 * std::f64::consts::PI * self.unit()).cos()

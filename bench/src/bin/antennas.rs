@@ -84,7 +84,8 @@ impl Setup {
         let (mut blocks, mut errors, mut iterations) = (0, 0, 0);
         while blocks < most && errors < 100 {
             let branches = self.branches(db, random);
-            fronts::proved(block.m, block.ceiling, &branches, &mut block.llr);
+            let refused = fronts::proved(block.m, block.ceiling, &branches, &mut block.llr);
+            assert_eq!(refused, 0, "the proved front refuses a block");
             iterations += u64::from(proved(block, (1, 0), 50, &mut to));
             errors += u32::from(to.is_wrong(block));
             blocks += 1;

@@ -5,7 +5,6 @@ ghost use mathlib.Core.Path.{_≡_};
 ghost use mathlib.Core.Bool.{_&&_};
 ghost use Prim.Native.Nat.{_≤_};
 ghost use lib.IntN.{natAbs};
-ghost use Rattle.calls.specs.Bounds.{largestCeiling};
 ghost use Rattle.calls.specs.Numbers.{refusalNumber, numberOf};
 
 // The largest m, ceiling and scale, as document 01 has them.
@@ -87,11 +86,11 @@ pub fn both(a: bool, b: bool) -> bool
     a & b
 }
 
-// The size of a message. The negation has 32 bits: of one with 16, which must not overflow, the compiler concludes that
-// a size is 0 or more, and where f compares two as signed numbers it compares unsigned ones, for which SSE2 has no
-// minimum of 16 bits.
+// The size of a message, or of a sum of two. The negation has 32 bits: of one with 16, which must not overflow, the
+// compiler concludes that a size is 0 or more, and where f compares two as signed numbers it compares unsigned ones, for
+// which SSE2 has no minimum of 16 bits.
 pub fn size(value: i16) -> u16
-    requires { ⌜ natAbs value ≤ largestCeiling ⌝ }
+    requires { ⌜ natAbs value ≤ 32767 ⌝ }
     ensures { λ r. ⌜ r ≡ natAbs value ⌝ }
 {
     if value < 0 {

@@ -1,6 +1,6 @@
 -- Laws of the message arithmetic, for every rule and every two numbers: sizes, orders, and how a turned sign comes out;
 -- and f by the cases of document 01. `RuleInRange` is what the decoder has tested of a rule.
-use Prim.Native.Nat.{ℕ, zero, suc, _*_, _/_, _≤_, min}
+use Prim.Native.Nat.{ℕ, zero, suc, _-_, _*_, _/_, _≤_, min}
 use mathlib.Core.Path.{_≡_, refl, sym, ap, ap₂, _∙_}
 use mathlib.Core.Bool.{Bool, true, false, cond, _||_}
 use native.Mathlib.Nat.{le-refl, mul-le-mul, mul-zero, one-mul, min-comm}
@@ -100,6 +100,25 @@ f-flipped rule s t a b =
     f-flipped-first rule s a (flipped t b)
     ∙ ap (flipped s) (f-comm rule a (flipped t b) ∙ f-flipped-first rule t b a ∙ ap (flipped t) (f-comm rule b a))
     ∙ sym (flipped-xor s t (f rule a b))
+
+-- of a message and a sum: the message lies within the ceiling and f takes the smaller size, so that the cut of the sum
+-- changes nothing
+f-cut : (rule : MinSum) (a z : ℤ) → 1 ≤ rule .ceiling → natAbs a ≤ rule .ceiling
+    → f rule a (cut (rule .ceiling) z) ≡ f rule a z
+unfolding f
+f-cut rule a (pos n) some h =
+    let same : min (natAbs a) (min n (rule .ceiling)) ≡ min (natAbs a) n = omega arith in
+    rw same
+f-cut rule a (negsuc n) some h =
+    let k : ℕ = min n (rule .ceiling - 1) in
+    let size : min (suc n) (rule .ceiling) ≡ suc k = omega arith in
+    let same : min (natAbs a) (suc k) ≡ min (natAbs a) (suc n) = omega arith in
+    rw (size, same)
+
+pub f-sum : (rule : MinSum) (a x y : ℤ) → 1 ≤ rule .ceiling → natAbs a ≤ rule .ceiling
+    → f rule a (add rule x y) ≡ f rule a (x +ℤ y)
+unfolding add
+f-sum rule a x y some h = f-cut rule a (x +ℤ y) some h
 
 -- ---- document 01's cases
 

@@ -2,7 +2,7 @@
 // It sees `calls` alone. It promises document 01's f and its sum, cut after the single addition. Its functions are
 // offered to the crates above, which have tested ceiling and scale.
 ghost use mathlib.Core.Path.{_≡_};
-ghost use Prim.Native.Nat.{_*_, _/_, _≤_};
+ghost use Prim.Native.Nat.{_+_, _*_, _/_, _≤_};
 ghost use lib.IntN.{pos, natAbs};
 ghost use Rattle.calls.specs.Bounds.{largestCeiling, largestScale};
 ghost use Rattle.calls.specs.Signs.{isNegative, flipped};
@@ -62,10 +62,11 @@ fn scaled(scale: u16, negative: bool, size: u16) -> i16
     with_sign(negative, product >> 4)
 }
 
-// f of two messages. The sizes are compared as signed numbers: of 16 bits, SSE2 has a minimum of those alone.
+// f of a message, and of another or a sum of two that is not cut: f takes the smaller size, so the cut changes nothing
+// (`f-sum` of MessageLaws). The sizes are compared as signed numbers: of 16 bits, SSE2 has a minimum of those alone.
 pub fn min_sum(rule: MinSum, a: i16, b: i16) -> i16
     requires { ⌜ RuleInRange rule ⌝ }
-    requires { ⌜ (natAbs a ≤ rule .ceiling) × (natAbs b ≤ rule .ceiling) ⌝ }
+    requires { ⌜ (natAbs a ≤ rule .ceiling) × (natAbs b ≤ rule .ceiling + rule .ceiling) ⌝ }
     ensures { λ r. ⌜ r ≡ f rule a b ⌝ }
 {
     let negative = is_negative(a) != is_negative(b);

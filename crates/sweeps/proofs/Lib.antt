@@ -1,5 +1,9 @@
 pub mod Combined
+pub mod Digits
 pub mod Filled
-pub mod Pairs
+pub mod Merged
+pub mod Parts
+pub mod Places
 pub mod Rows
+pub mod Runs
 pub mod Steps

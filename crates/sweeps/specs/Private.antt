@@ -1,9 +1,9 @@
 -- Definitions for the contracts of private functions: what the steps of the code compute, in the shape of the code.
 -- Both sweeps take their steps by one formula over two rows, in flat places of the workspace. A reader of the contracts
 -- of `begin` and `iterate` needs none of it.
-use Prim.Native.Nat.{ℕ, _+_, _-_, _*_, _^_, _≤_, _<_}
+use Prim.Native.Nat.{ℕ, _+_, _-_, _*_, _/_, _^_, _≤_, _<_}
 use mathlib.Core.Path.{_≡_}
-use mathlib.Core.Bool.{cond}
+use mathlib.Core.Bool.{Bool, cond}
 use mathlib.Core.List.{List}
 use lib.Bits.{bitAnd}
 use lib.Dec.{eqb}
@@ -11,7 +11,6 @@ use lib.IntN.{ℤ, pos, natAbs}
 use lib.ListN.{length, getD}
 use Rattle.calls.specs.LentMemory.{overwriteFrom}
 use Rattle.polar.specs.Columns.{digit, bySide}
-use Rattle.polar.specs.DigitLaws.{Multiple}
 use Rattle.message.specs.declared.MinSum.{MinSum}
 use Rattle.message.specs.Message.{add, f}
 use Rattle.sweeps.specs.Workspace.{row, setRow}
@@ -33,9 +32,19 @@ newAt rule d x y w p =
     (upperAt rule d x y w p)
     (add rule (f rule (messageAt w (x - d + p)) (messageAt w (y - d + p))) (messageAt w (x + p)))
 
+-- the same where its partner is at q
+abbrev pub partneredAt : MinSum → Bool → ℕ → ℕ → List ℤ → ℕ → ℕ → ℤ
+partneredAt rule upper x y w p q =
+    cond upper
+    (f rule (messageAt w (x + p)) (add rule (messageAt w (x + q)) (messageAt w (y + q))))
+    (add rule (f rule (messageAt w (x + q)) (messageAt w (y + q))) (messageAt w (x + p)))
+
+-- there is an element j, and it is a message within the ceiling
+abbrev pub MessageIn : ℕ → ℕ → List ℤ → Type 0
+MessageIn C j w = (j < length w) × (natAbs (messageAt w j) ≤ C)
+
 -- the messages that a step reads for position p are there and lie within the ceiling
 pub record Readable (C p d x y : ℕ) (w : List ℤ) : Type 0 where
-  pub small : p + d < 65536
   pub before : (d ≤ x) × (d ≤ y)
   pub after : (x + (p + d) < length w) × (y + (p + d) < length w)
   pub own : natAbs (messageAt w (x + p)) ≤ C
@@ -44,6 +53,38 @@ pub record Readable (C p d x y : ℕ) (w : List ℤ) : Type 0 where
   pub y-after : natAbs (messageAt w (y + (p + d))) ≤ C
   pub x-before : natAbs (messageAt w (x - d + p)) ≤ C
   pub y-before : natAbs (messageAt w (y - d + p)) ≤ C
+
+abbrev pub ReadableRun : MinSum → ℕ → ℕ → ℕ → ℕ → List ℤ → Type 0
+ReadableRun rule n d x y w = (i : ℕ) → i < n → Readable (rule .ceiling) i d x y w
+
+-- ---- parts of a step, at the places x, y and `to` of three rows
+
+-- the new messages of n positions
+unfoldable pub newRun : MinSum → ℕ → ℕ → ℕ → ℕ → ℕ → List ℤ → List ℤ
+newRun rule d to x y n w = overwriteFrom to n (newAt rule d x y w) w
+
+-- the new messages of n upper positions, and of their partners
+unfoldable pub pairRuns : MinSum → ℕ → ℕ → ℕ → ℕ → ℕ → List ℤ → List ℤ
+pairRuns rule d to x y n w =
+    overwriteFrom (to + d) n (lowerAt rule d x y w) (overwriteFrom to n (upperAt rule d x y w) w)
+
+-- arrays of eight: the new messages, the mask tests, messages gathered, and eight pairs over the distance d merged in
+-- the order of their positions
+abbrev pub NewEight : MinSum → ℕ → ℕ → ℕ → List ℤ → List ℤ → Type 0
+NewEight rule d x y w values = (i : ℕ) → i < 8 → messageAt values i ≡ newAt rule d x y w i
+
+abbrev pub MaskTable : ℕ → List ℤ → Type 0
+MaskTable d values = (i : ℕ) → i < 8 → messageAt values i ≡ pos (bitAnd i d)
+
+abbrev pub Gathered : ℕ → ℕ → List ℤ → List ℤ → Type 0
+Gathered at mask w values = (i : ℕ) → i < 8 → messageAt values i ≡ messageAt w (at + (i + bitAnd i mask))
+
+abbrev pub pairOf : ℕ → ℕ → ℕ
+pairOf d i = bitAnd i (d - 1) + bitAnd (i / 2) (8 - d)
+
+abbrev pub mergedAt : ℕ → List ℤ → List ℤ → ℕ → ℤ
+mergedAt d upper lower i =
+    cond (eqb (bitAnd i d) 0) (messageAt upper (pairOf d i)) (messageAt lower (pairOf d i))
 
 -- the formula of both sweeps over the two columns that a step reads: L(s, .) is joined of L(s + 1, .) and R(s, .), and
 -- R(s + 1, .) of R(s, .) and L(s + 1, .)
@@ -55,16 +96,6 @@ joinedAt rule t x y p =
 
 unfoldable pub rowStep : MinSum → ℕ → ℕ → ℕ → ℕ → ℕ → List ℤ → List ℤ
 rowStep rule m t k x y w = setRow m k (joinedAt rule t (row m w x) (row m w y)) w
-
--- a part of it: the n new messages from position p on
-unfoldable pub rowPart : MinSum → ℕ → ℕ → ℕ → ℕ → ℕ → ℕ → ℕ → List ℤ → List ℤ
-rowPart rule m t k x y p n w = overwriteFrom (k * 2 ^ m + p) n (λ i. joinedAt rule t (row m w x) (row m w y) (p + i)) w
-
--- the 2 ^ t positions from p on are upper ones of the block
-pub record UpperRun (m t p : ℕ) : Type 0 where
-  pub whole : Multiple (2 ^ t) p
-  pub inside : p < 2 ^ m
-  pub upper : digit t p ≡ 0
 
 -- the rows of a step: row k is written, x and y are read, and these two have rows on both sides
 pub record Rows (m t k x y : ℕ) : Type 0 where

@@ -1,0 +1,231 @@
+-- `chunks::chunk_4` meets its contract: the first i of both eights are computed.
+use Prim.Native.Nat.{_≤_, _<_, _-_, _+_, zero-le}
+use mathlib.Core.Path.{_≡_, refl, _∙_}
+use native.Mathlib.Omega.{arith}
+use borrow.Author.Needs.{needs}
+use denote.Ref.{now}
+use lib.ListN.{length}
+use Rattle.calls.proofs.Signed.{told}
+use Rattle.sweeps.specs.Private.{upperAt, lowerAt, newAt, newRun}
+use Rattle.sweeps.proofs.Merged.{
+  upperOf,
+  GatheredPairs,
+  of-pairs-4,
+  merged-new,
+  xu-small,
+  xl-small,
+  yu-small,
+  yl-small,
+  xu-held,
+  xl-held,
+  yu-held,
+  yl-held,
+  pair-upper,
+  pair-lower,
+  gather-room,
+}
+use Rattle.sweeps.proofs.Parts.{ArrayPart, array-none, array-next, array-at, overwriteFrom-same}
+use Rattle.sweeps.proofs.chunks.chunk_4.Statement.{statement}
+use Rattle.sweeps.proofs.chunks.chunk_4.Tie as tie
+
+abbrev Inv-loop : tie.InvT-loop
+Inv-loop rule to x y work x-upper x-lower y-upper y-lower upper₀ lower₀ i₀ upper lower i =
+    (i ≤ 8) × GatheredPairs rule 4 x y work x-upper x-lower y-upper y-lower
+    × ArrayPart i (λ j. upperAt rule 4 x y work (upperOf 4 j)) upper
+    × ArrayPart i (λ j. lowerAt rule 4 x y work (upperOf 4 j)) lower
+
+abbrev μ-loop : tie.MeasureT-loop
+μ-loop rule to x y work x-upper x-lower y-upper y-lower upper₀ lower₀ i₀ upper lower i = 8 - i
+
+room : (s : tie.Start Inv-loop μ-loop) → let a = s .args in
+    (a .x + 4 + 16 ≤ length (now (a .work))) × (a .y + 4 + 16 ≤ length (now (a .work)))
+room s = let a = s .args in gather-room (a .rule) 4 (a .x) (a .y) (now (a .work)) (s .pre .1 .0)
+
+gather-requires : tie.Need-gather-requires Inv-loop μ-loop
+gather-requires c κs = omega (arith, room (c .before) .0)
+
+add-gather : tie.Need-add-gather Inv-loop μ-loop
+add-gather c = omega (arith, room (c .before .before .before) .0)
+
+gather-requires-2 : tie.Need-gather-requires-2 Inv-loop μ-loop
+gather-requires-2 c κs = omega (arith, room (c .before .before .before) .0)
+
+gather-requires-3 : tie.Need-gather-requires-3 Inv-loop μ-loop
+gather-requires-3 c κs = omega (arith, room (c .before .before .before .before .before) .1)
+
+add-gather-2 : tie.Need-add-gather-2 Inv-loop μ-loop
+add-gather-2 c = omega (arith, room (c .before .before .before .before .before .before .before) .1)
+
+gather-requires-4 : tie.Need-gather-requires-4 Inv-loop μ-loop
+gather-requires-4 c κs = omega (arith, room (c .before .before .before .before .before .before .before) .1)
+
+loop-holds : tie.Need-loop-holds Inv-loop μ-loop
+loop-holds c =
+    let s = c .before .before .before .before .before .before .before .before in (
+      zero-le,
+      record {
+        in-range = s .pre .0;
+        ready = s .pre .1 .0;
+        x-upper = c .before .before .before .before .before .before .gather .ensures;
+        x-lower = c .before .before .before .before .gather2 .ensures;
+        y-upper = c .before .before .gather3 .ensures;
+        y-lower = c .gather4 .ensures;
+      },
+      array-none refl,
+      array-none refl,
+    )
+
+mul-upper : tie.Need-mul-upper Inv-loop μ-loop
+mul-upper c = omega arith
+
+array-copy-out-upper : tie.Need-array-copy-out-upper Inv-loop μ-loop
+array-copy-out-upper c = omega arith
+
+mul-upper-2 : tie.Need-mul-upper-2 Inv-loop μ-loop
+mul-upper-2 c = omega arith
+
+array-copy-out-upper-2 : tie.Need-array-copy-out-upper-2 Inv-loop μ-loop
+array-copy-out-upper-2 c = omega arith
+
+mul-upper-3 : tie.Need-mul-upper-3 Inv-loop μ-loop
+mul-upper-3 c = omega arith
+
+array-copy-out-upper-3 : tie.Need-array-copy-out-upper-3 Inv-loop μ-loop
+array-copy-out-upper-3 c = omega arith
+
+upper-requires : tie.Need-upper-requires Inv-loop μ-loop
+upper-requires c κs =
+    let at = c .before .before .before .before in
+    let g = at .loop .inv .1 in
+    let i = at .loop .i in
+    let l : i < 8 = omega arith in (
+      g .in-range,
+      (
+        rw (xu-held g i l) (xu-small g i l),
+        rw (xl-held g i l) (xl-small g i l),
+        rw (yl-held g i l) (yl-small g i l),
+      ),
+    )
+
+mul-upper-4 : tie.Need-mul-upper-4 Inv-loop μ-loop
+mul-upper-4 c = omega arith
+
+array-set-from-upper : tie.Need-array-set-from-upper Inv-loop μ-loop
+array-set-from-upper c = omega arith
+
+mul-lower : tie.Need-mul-lower Inv-loop μ-loop
+mul-lower c = omega arith
+
+array-copy-out-lower : tie.Need-array-copy-out-lower Inv-loop μ-loop
+array-copy-out-lower c = omega arith
+
+mul-lower-2 : tie.Need-mul-lower-2 Inv-loop μ-loop
+mul-lower-2 c = omega arith
+
+array-copy-out-lower-2 : tie.Need-array-copy-out-lower-2 Inv-loop μ-loop
+array-copy-out-lower-2 c = omega arith
+
+mul-lower-3 : tie.Need-mul-lower-3 Inv-loop μ-loop
+mul-lower-3 c = omega arith
+
+array-copy-out-lower-3 : tie.Need-array-copy-out-lower-3 Inv-loop μ-loop
+array-copy-out-lower-3 c = omega arith
+
+lower-requires : tie.Need-lower-requires Inv-loop μ-loop
+lower-requires c κs =
+    let at = c .before .before .before .before .before .before .before .before in
+    let g = at .loop .inv .1 in
+    let i = at .loop .i in
+    let l : i < 8 = omega arith in (
+      g .in-range,
+      (
+        rw (xl-held g i l) (xl-small g i l),
+        rw (xu-held g i l) (xu-small g i l),
+        rw (yu-held g i l) (yu-small g i l),
+      ),
+    )
+
+mul-lower-4 : tie.Need-mul-lower-4 Inv-loop μ-loop
+mul-lower-4 c = omega arith
+
+array-set-from-lower : tie.Need-array-set-from-lower Inv-loop μ-loop
+array-set-from-lower c = omega arith
+
+add-i : tie.Need-add-i Inv-loop μ-loop
+add-i c = omega arith
+
+loop-less : tie.Need-loop-less Inv-loop μ-loop
+loop-less c = omega arith
+
+loop-again : tie.Need-loop-again Inv-loop μ-loop
+loop-again c =
+    let at = c .before .before .before .before .before .before .before .before .before in
+    let h = at .loop .inv in
+    let g = h .1 in
+    let i = at .loop .i in
+    let l : i < 8 = omega arith in (
+      omega arith,
+      g,
+      array-next (h .2) l
+          (told (c .before .before .before .before .upper .ok) (c .before .before .before .before .upper .ensures)
+          ∙ rw (xu-held g i l, xl-held g i l, yl-held g i l) (pair-upper g i l)),
+      array-next (h .3) l
+          (told (c .lower .ok) (c .lower .ensures)
+          ∙ rw (xu-held g i l, xl-held g i l, yu-held g i l) (pair-lower g i l)),
+    )
+
+put-merged-4-requires : tie.Need-put-merged-4-requires Inv-loop μ-loop
+put-merged-4-requires c κs = c .before .before .before .before .before .before .before .before .before .before .before .before .before .pre .1 .1
+
+same-length : tie.Need-same-length Inv-loop μ-loop
+same-length c = search needs
+
+returns : tie.Need-returns Inv-loop μ-loop
+unfolding newRun
+returns c =
+    let at = c .before .before .before .before .before .before in
+    let h = at .loop .inv in
+    let a = c .before .before .before .before .before .before .before .before .before .before .before .before .before .before .before .args in
+    let r = h .1 .ready 0 (omega arith) .before in
+    c .before .put-merged-4 .ensures
+    ∙ overwriteFrom-same (a .to) 16 _ (newAt (a .rule) 4 (a .x) (a .y) (now (a .work))) (now (a .work))
+    (merged-new (a .rule) 2 (a .x) (a .y) (now (a .work)) (at .loop .upper) (at .loop .lower) of-pairs-4 (r .0) (r .1)
+    (array-at (h .2) (omega arith)) (array-at (h .3) (omega arith)))
+
+pub chunk-4-spec : {M : Type 1} → statement M
+chunk-4-spec =
+    tie.close
+    (tie.spec
+    Inv-loop
+    μ-loop
+    gather-requires
+    add-gather
+    gather-requires-2
+    gather-requires-3
+    add-gather-2
+    gather-requires-4
+    loop-holds
+    mul-upper
+    array-copy-out-upper
+    mul-upper-2
+    array-copy-out-upper-2
+    mul-upper-3
+    array-copy-out-upper-3
+    upper-requires
+    mul-upper-4
+    array-set-from-upper
+    mul-lower
+    array-copy-out-lower
+    mul-lower-2
+    array-copy-out-lower-2
+    mul-lower-3
+    array-copy-out-lower-3
+    lower-requires
+    mul-lower-4
+    array-set-from-lower
+    add-i
+    loop-less
+    loop-again
+    put-merged-4-requires
+    same-length
+    returns)
