@@ -1,2 +1,4 @@
 pub mod Loops
+pub mod Passes
+pub mod Sixteens
 pub mod Steps

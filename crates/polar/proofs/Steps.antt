@@ -19,6 +19,7 @@ use Rattle.calls.specs.LentMemoryLaws.{
   overwriteFrom-none,
   overwriteFrom-behind,
   overwriteFrom-store,
+  overwriteFrom-more,
 }
 use Rattle.calls.specs.Bits.{byteOf}
 use Rattle.polar.specs.Code.{coded}
@@ -58,6 +59,23 @@ module _ {p d i : ℕ} {old block : List ℕ} (h : Joined p d i old block) where
       = ap₂ bitXor (overwriteFrom-behind p i f old (p + i) 0 (omega arith))
       (overwriteFrom-behind p i f old (p + d + i) 0 (omega arith)) in
       record { is = rw (h .is, v, add-one i) (overwriteFrom-store p i f old (omega arith)) }
+
+  -- sixteen more
+  pub joined-sixteen : i + 16 ≤ d → (r y : List ℕ) → ((j : ℕ) → j < 16 → getD r j 0 ≡ pair block (p + i) d j)
+      → y ≡ overwriteFrom (p + i) 16 (λ j. getD r j 0) block
+      → Joined p d (i + 16) old y
+  joined-sixteen l r y values e =
+      let f = pair old p d in
+      let read : (k : ℕ) → p + i ≤ k → getD block k 0 ≡ getD old k 0
+      = λ k q. rw (h .is) (overwriteFrom-behind p i f old k 0 q) in
+      let new : (j : ℕ) → j < 16 → getD r j 0 ≡ f (i + j)
+      = λ j q.
+      let here : p + i + j ≡ p + (i + j) = omega arith in
+      let across : p + i + d + j ≡ p + d + (i + j) = omega arith in
+      values j q
+      ∙ rw (here, across) (ap₂ bitXor (read (p + (i + j)) (omega arith)) (read (p + d + (i + j)) (omega arith)))
+      in
+      record { is = e ∙ rw (h .is) (overwriteFrom-more p i 16 (λ j. getD r j 0) f old new) }
 
 -- ---- a step over the distance 2 ^ t: the first p positions, whole runs, are done
 

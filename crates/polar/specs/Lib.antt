@@ -4,6 +4,7 @@ pub mod Code
 pub mod Columns
 pub mod ParityLaws
 pub mod TransformLaws
+pub mod Private
 pub mod CodeLaws
 pub mod DigitLaws
 pub mod BlockLaws

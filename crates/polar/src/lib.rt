@@ -24,7 +24,9 @@ ghost use Rattle.polar.specs.Code.{
   readOutNumber,
   readOutMessage,
 };
-ghost use Rattle.polar.specs.Columns.{columnStep};
+ghost use Rattle.polar.specs.Columns.{columnStep, column};
+ghost use Rattle.polar.specs.DigitLaws.{Multiple};
+ghost use Rattle.polar.specs.Private.{sixteensCoded};
 ghost use Rattle.polar.specs.CodeLaws.{MessageAccepted};
 ghost use Rattle.polar.specs.BlockLaws.{bitsOf, Bits};
 ghost use lib.Bits.{bitXor};
@@ -193,8 +195,8 @@ fn place(mask: &[u8], message: &[u8], n: usize, block: &mut [u8])
     }
 }
 
-// The run of d positions from p on takes the exclusive-or with the run of d behind it.
-fn join(block: &mut [u8], p: usize, d: usize)
+// The run of d positions from p on takes the exclusive-or with the run of d behind it, position by position.
+fn join_short(block: &mut [u8], p: usize, d: usize)
     requires { ⌜ p + d + d ≤ length (now block) ⌝ }
     ensures { λ _. ⌜ now (block .exit)
         ≡ overwriteFrom p d
@@ -205,6 +207,68 @@ fn join(block: &mut [u8], p: usize, d: usize)
     while i < d {
         block[p + i] = block[p + i] ^ block[p + d + i];
         i += 1;
+    }
+}
+
+// The sixteen positions from p on, each joined with the one d behind it.
+fn joined_sixteen(block: &[u8], p: usize, d: usize) -> [u8; 16]
+    requires { ⌜ p + d + 16 ≤ length (now block) ⌝ }
+    ensures { λ r. ⌜ ((i : ℕ) → i < 16 → getD r i 0
+        ≡ bitXor (getD (now (block .entry)) (p + i) 0) (getD (now (block .entry)) (p + d + i) 0)) ⌝ }
+{
+    let mut joined = [0u8; 16];
+    let mut j = 0;
+    while j < 16 {
+        joined[j] = block[p + j] ^ block[p + d + j];
+        j += 1;
+    }
+    joined
+}
+
+// The sixteen values, from element p on.
+fn put_sixteen(values: &[u8; 16], p: usize, block: &mut [u8])
+    requires { ⌜ p + 16 ≤ length (now block) ⌝ }
+    ensures { λ _. ⌜ now (block .exit)
+        ≡ overwriteFrom p 16 (λ i. getD (now (values .entry)) i 0) (now (block .entry)) ⌝ }
+{
+    let mut j = 0;
+    while j < 16 {
+        block[p + j] = values[j];
+        j += 1;
+    }
+}
+
+// The same as `join_short`, sixteen at a time: they are computed before the first of them is written, so that the
+// compiler needs no test of overlap.
+fn join_long(block: &mut [u8], p: usize, d: usize)
+    requires { ⌜ p + d + d ≤ length (now block) ⌝ }
+    requires { ⌜ Multiple 16 d ⌝ }
+    ensures { λ _. ⌜ now (block .exit)
+        ≡ overwriteFrom p d
+        (λ i. bitXor (getD (now (block .entry)) (p + i) 0) (getD (now (block .entry)) (p + d + i) 0))
+        (now (block .entry)) ⌝ }
+{
+    let mut i = 0;
+    while i < d {
+        let joined = joined_sixteen(block, p + i, d);
+        put_sixteen(&joined, p + i, block);
+        i += 16;
+    }
+}
+
+// The same of a run of any length 2^t.
+fn join(block: &mut [u8], p: usize, d: usize)
+    requires { ⌜ p + d + d ≤ length (now block) ⌝ }
+    requires { ⌜ (16 ≤ d → Multiple 16 d) ⌝ }
+    ensures { λ _. ⌜ now (block .exit)
+        ≡ overwriteFrom p d
+        (λ i. bitXor (getD (now (block .entry)) (p + i) 0) (getD (now (block .entry)) (p + d + i) 0))
+        (now (block .entry)) ⌝ }
+{
+    if d < 16 {
+        join_short(block, p, d);
+    } else {
+        join_long(block, p, d);
     }
 }
 
@@ -226,6 +290,49 @@ fn butterflies(block: &mut [u8], m: u32, t: u32)
     }
 }
 
+// The first steps of the transform, over the distances 2^(m-1), 2^(m-2), and so on.
+fn first_steps(block: &mut [u8], m: u32, count: u32)
+    requires { ⌜ (m ≤ largestM) × (count ≤ m) ⌝ }
+    requires { ⌜ Bits (2 ^ m) (now block) ⌝ }
+    ensures { λ _. ⌜ now (block .exit)
+        ≡ overwrite (2 ^ m) (λ i. byteOf (column m (bitsOf (now (block .entry))) count i)) (now (block .entry)) ⌝ }
+{
+    let mut s = 0;
+    while s < count {
+        butterflies(block, m, m - 1 - s);
+        s += 1;
+    }
+}
+
+// The coded bits of the first sixteen elements. With the literals of each call the compiler unrolls its loops and drops
+// the mask tests, and a bit is read and written once for all four steps.
+fn transform_sixteen(block: &mut [u8])
+    requires { ⌜ Bits 16 (now block) ⌝ }
+    ensures { λ _. ⌜ now (block .exit)
+        ≡ overwrite 16 (λ i. byteOf (coded 4 (bitsOf (now (block .entry))) i)) (now (block .entry)) ⌝ }
+{
+    butterflies(block, 4, 3);
+    butterflies(block, 4, 2);
+    butterflies(block, 4, 1);
+    butterflies(block, 4, 0);
+}
+
+// The last four steps, over the distances 8, 4, 2 and 1, in one pass: they join no position with one outside its
+// sixteen, so that each sixteen is a block of its own.
+fn last_steps(block: &mut [u8], m: u32)
+    requires { ⌜ (m ≤ largestM) × (4 ≤ m) ⌝ }
+    requires { ⌜ Bits (2 ^ m) (now block) ⌝ }
+    ensures { λ _. ⌜ now (block .exit)
+        ≡ overwrite (2 ^ m) (λ i. byteOf (sixteensCoded (bitsOf (now (block .entry))) i)) (now (block .entry)) ⌝ }
+{
+    let n = power_of_two(m);
+    let mut p = 0;
+    while p < n {
+        transform_sixteen(&mut block[p..]);
+        p += 16;
+    }
+}
+
 // The coded bits of the first 2^m elements, in place: m steps, from the distance 2^(m-1) down to 1.
 // It is offered to the crates above, which lend it bits.
 pub fn transform(block: &mut [u8], m: u32)
@@ -234,10 +341,11 @@ pub fn transform(block: &mut [u8], m: u32)
     ensures { λ _. ⌜ now (block .exit)
         ≡ overwrite (2 ^ m) (λ i. byteOf (coded m (bitsOf (now (block .entry))) i)) (now (block .entry)) ⌝ }
 {
-    let mut s = 0;
-    while s < m {
-        butterflies(block, m, m - 1 - s);
-        s += 1;
+    if m < 4 {
+        first_steps(block, m, m);
+    } else {
+        first_steps(block, m, m - 4);
+        last_steps(block, m);
     }
 }
 

@@ -6,6 +6,7 @@ use native.Mathlib.Omega.{arith}
 use lib.Pow.{pow-pos}
 use Rattle.polar.specs.Columns.{digit}
 use Rattle.polar.specs.DigitLaws.{mask-clear, mask-set, run-fits, upper-fits}
+use Rattle.polar.proofs.Sixteens.{distance-sixteens}
 use Rattle.polar.proofs.Steps.{Stepped, stepped-none, stepped-length, stepped-upper, stepped-lower}
 use Rattle.polar.proofs.butterflies.Statement.{statement}
 use Rattle.polar.proofs.butterflies.Tie as tie
@@ -42,12 +43,14 @@ loop-holds c = (c .before .power-of-two .ensures, c .power-of-two2 .ensures, zer
 join-requires : tie.Need-join-requires Inv-loop μ-loop
 join-requires c κs =
     let in-loop = c .before .before in
-    let h = in-loop .before .loop .inv in
-    omega (
-      arith,
-      start in-loop .pre .1 .long,
-      stepped-length (h .3),
-      pair-fits in-loop (mask-clear _ _ _ (h .1) (c .before .if1 .taken)),
+    let h = in-loop .before .loop .inv in (
+      omega (
+        arith,
+        start in-loop .pre .1 .long,
+        stepped-length (h .3),
+        pair-fits in-loop (mask-clear _ _ _ (h .1) (c .before .if1 .taken)),
+      ),
+      distance-sixteens _ _ (h .1),
     )
 
 add-p : tie.Need-add-p Inv-loop μ-loop

@@ -1,69 +1,60 @@
--- `transform` meets its contract: after s steps the block holds column s, and the last column is the closed form.
-use Prim.Native.Nat.{_≤_, _-_, zero-le}
+-- `transform` meets its contract: all m steps, or the last four of them behind the others.
+use Prim.Native.Nat.{_≤_, _-_}
+use mathlib.Core.Path.{refl}
 use native.Mathlib.Omega.{arith}
-use Rattle.polar.proofs.Steps.{
-  Columned,
-  columned-none,
-  columned-length,
-  columned-bits,
-  columned-next,
-  columned-all,
-}
+use borrow.Author.Needs.{needs}
+use Rattle.polar.proofs.Steps.{Columned, columned-bits, columned-all}
+use Rattle.polar.proofs.Passes.{columned-recoded}
 use Rattle.polar.proofs.transform.Statement.{statement}
 use Rattle.polar.proofs.transform.Tie as tie
 
-abbrev Inv-loop : tie.InvT-loop
-Inv-loop block₀ m s₀ block s = (s ≤ m) × Columned m s block₀ block
+module _ (c : tie.After-first-steps2) where
+  abbrev start : tie.Start
+  start = c .before .before .before .before
 
-abbrev μ-loop : tie.MeasureT-loop
-μ-loop block₀ m s₀ block s = m - s
+  sixteen : 4 ≤ start .args .m
+  sixteen = omega arith
 
-loop-holds : tie.Need-loop-holds Inv-loop μ-loop
-loop-holds c = (zero-le, columned-none (c .before .pre .1))
+  columned : Columned (start .args .m) (start .args .m - 4) (start .args .block .now) (c .first-steps2 .last .0)
+  columned = record { is = c .first-steps2 .ensures }
 
-sub-butterflies : tie.Need-sub-butterflies Inv-loop μ-loop
-sub-butterflies c = omega arith
+first-steps-requires : tie.Need-first-steps-requires
+first-steps-requires c κs = search needs
 
-sub-butterflies-2 : tie.Need-sub-butterflies-2 Inv-loop μ-loop
-sub-butterflies-2 c = omega arith
+first-steps-requires-2 : tie.Need-first-steps-requires-2
+first-steps-requires-2 c κs = search needs
 
-butterflies-requires : tie.Need-butterflies-requires Inv-loop μ-loop
-butterflies-requires c κs =
-    let at = c .before .before in
-    ((at .before .before .pre .0, omega arith), columned-bits (at .loop .inv .1) (at .before .before .pre .1))
+last-steps-requires : tie.Need-last-steps-requires
+last-steps-requires c κs =
+    let others = c .before .before .before in
+    ((start others .pre .0, sixteen others), columned-bits (columned others) (start others .pre .1))
 
-add-s : tie.Need-add-s Inv-loop μ-loop
-add-s c = omega arith
+same-length : tie.Need-same-length
+same-length c = search needs
 
-loop-less : tie.Need-loop-less Inv-loop μ-loop
-loop-less c = omega arith
+returns : tie.Need-returns
+returns c =
+    let s = c .before .before .before .before .before .before in
+    columned-all {m = s .args .m} {old = s .args .block .now} (record { is = c .before .before .first-steps .ensures })
+    refl
 
-loop-again : tie.Need-loop-again Inv-loop μ-loop
-loop-again c =
-    let at = c .before .before .before .before .before in (
-      omega arith,
-      columned-next (at .loop .inv .1) (at .before .before .pre .1) (omega arith) _
-          (c .before .before .butterflies .ensures),
-    )
+same-length-2 : tie.Need-same-length-2
+same-length-2 c = search needs
 
-same-length : tie.Need-same-length Inv-loop μ-loop
-same-length c = columned-length (c .before .loop .inv .1)
-
-returns : tie.Need-returns Inv-loop μ-loop
-returns c = columned-all (c .before .loop .inv .1) (omega arith)
+returns-2 : tie.Need-returns-2
+returns-2 c =
+    let others = c .before .before .before .before .before .before in
+    columned-recoded _ _ _ _ (start others .pre .1) (sixteen others) (columned others)
+    (c .before .before .last-steps .ensures)
 
 pub transform-spec : {M : Type 1} → statement M
 transform-spec =
     tie.close
     (tie.spec
-    Inv-loop
-    μ-loop
-    loop-holds
-    sub-butterflies
-    sub-butterflies-2
-    butterflies-requires
-    add-s
-    loop-less
-    loop-again
+    first-steps-requires
+    first-steps-requires-2
+    last-steps-requires
     same-length
-    returns)
+    returns
+    same-length-2
+    returns-2)
