@@ -1,25 +1,65 @@
--- What the code's comparisons of a float with zero and with the infinities decide.
-use Prim.Native.Nat.{ℕ, zero, suc, _+_, _*_}
+-- What the code's comparisons decide: of a float with zero and with the infinities, and of its difference with itself.
+use Prim.Native.Nat.{ℕ, zero, suc, _+_, _-_, _*_}
 use mathlib.Core.Path.{_≡_, refl, sym, ap, _∙_}
 use mathlib.Core.Bool.{Bool, true, false, not, _&&_, cond}
-use native.Mathlib.Nat.{mul-pos, zero-lt-suc}
+use native.Mathlib.Nat.{le-refl, mul-pos, sub-self, zero-lt-suc}
 use native.Mathlib.Omega.{arith}
-use lib.Dec.{eqb, eqb·suc-zero}
+use lib.Dec.{ltb, eqb, eqb·suc-zero}
 use lib.IntN.{ℤ, pos, negℤ}
-use lib.Ieee.{Float, nan, inf, fin, up, down, lt}
-use lib.Ieee.Fits.{up-pos}
+use lib.Ieee.{Float, nan, inf, fin, binary32, up, down, size, odd, units, round, sum, add, sub, neg, lt, eq}
+use lib.Ieee.Fits.{up-pos, down-pos}
+use lib.Ieee.Scale.{round-same}
 use borrow.Author.Tests.{lt-ltb, le-ltb}
 use Rattle.channel.specs.Front.{isFinite, isAboveZero}
 use Rattle.channel.specs.Private.{bySign}
 
-pub finite-is : (x : Float) → isFinite x ≡ lt (inf true) x && lt x (inf false)
-unfolding lt isFinite
-finite-is nan = refl
-finite-is (inf true) = refl
-finite-is (inf false) = refl
-finite-is (fin s m e) = refl
+-- ---- a float less itself
 
--- zero and a finite float, either way round
+zero-rounded : round binary32 false 0 1 ≡ fin false 0 (pos 0)
+unfolding round size units odd
+zero-rounded = refl
+
+sum-opposite : (s : Bool) (a c : ℕ) → ltb a a ≡ false → sum binary32 s a (not s) a c ≡ round binary32 false (a - a) c
+unfolding sum
+sum-opposite true a c h =
+    ap (λ (t : Bool). cond t (round binary32 false (a - a) c) (round binary32 (true && t) (a - a) c)) h
+sum-opposite false a c h =
+    ap (λ (t : Bool). cond t (round binary32 true (a - a) c) (round binary32 (false && t) (a - a) c)) h
+
+less-itself : (x : Float) → sub binary32 x x ≡ cond (isFinite x) (fin false 0 (pos 0)) nan
+unfolding isFinite sub add neg
+less-itself nan = refl
+less-itself (inf true) = refl
+less-itself (inf false) = refl
+less-itself (fin s m e) =
+    let a = m * up e * down e in
+    let c = down e * down e in
+    sum-opposite s a c (le-ltb a a (le-refl a))
+    ∙ round-same binary32 false (a - a) c 0 1 (mul-pos (down-pos e) (down-pos e)) (zero-lt-suc 0)
+    (rw (sub-self a) (omega arith))
+    ∙ zero-rounded
+
+pub finite-is : (x : Float) → isFinite x ≡ eq (sub binary32 x x) (fin false 0 (pos 0))
+unfolding eq
+finite-is x = rw (less-itself x) (by-test (isFinite x))
+  where
+    by-test : (b : Bool) → b ≡ eq (cond b (fin false 0 (pos 0)) nan) (fin false 0 (pos 0))
+    by-test true = refl
+    by-test false = refl
+
+-- the differences of two floats are equal exactly where both floats are finite
+pub both-finite-is : (x y : Float) → isFinite x && isFinite y ≡ eq (sub binary32 x x) (sub binary32 y y)
+unfolding eq
+both-finite-is x y = rw (less-itself x, less-itself y) (by-tests (isFinite x) (isFinite y))
+  where
+    by-tests : (a b : Bool) → a && b ≡ eq (cond a (fin false 0 (pos 0)) nan) (cond b (fin false 0 (pos 0)) nan)
+    by-tests true true = refl
+    by-tests true false = refl
+    by-tests false true = refl
+    by-tests false false = refl
+
+-- ---- zero and a finite float, either way round
+
 above : (s : Bool) (m : ℕ) (e : ℤ) → lt (fin false 0 (pos 0)) (fin s m e) ≡ (not s && not (eqb m 0))
 unfolding lt
 above true m e = refl

@@ -1,4 +1,6 @@
 pub mod Comparisons
+pub mod Additions
+pub mod Cuts
 pub mod Fields
 pub mod Samples
 pub mod Signs

@@ -22,7 +22,7 @@ ghost use Rattle.channel.specs.Front.{
   frontNumber,
   frontLlrs,
 };
-ghost use Rattle.channel.specs.Private.{fieldUnits, bySign};
+ghost use Rattle.channel.specs.Private.{isWithin, wholeOf, bySign};
 use calls::Answer;
 use calls::LARGEST_CEILING;
 use calls::LARGEST_M;
@@ -35,11 +35,12 @@ pub enum Channel {
     Erasing,
 }
 
+// A finite value less itself is zero, and an infinity less itself a NaN. One comparison, where a test against each
+// infinity takes two.
 fn finite(x: f32) -> bool
     ensures { λ r. ⌜ r ≡ isFinite x ⌝ }
 {
-    let infinity = f32::from_bits(0x7f80_0000);
-    calls::both(-infinity < x, x < infinity)
+    x - x == 0.0
 }
 
 // Finite and above zero, as a factor or a weight has to be.
@@ -77,36 +78,31 @@ pub fn all_finite(samples: &[f32], n: usize) -> bool
     all
 }
 
-// The size of a float, given by its exponent field and its digits, as a whole number of at most the ceiling: the
-// ceiling where the size reaches it, else the nearest, halves up. A field below 126 is a size below a half; one of 138
-// is 2,048 or more, an infinity included.
-fn rounded_size(field: u32, digits: u32, ceiling: u32) -> u32
-    requires { ⌜ (digits < 2 ^ 23) × (1 ≤ ceiling) × (ceiling ≤ largestCeiling) ⌝ }
-    ensures { λ r. ⌜ r ≡ roundedSize ceiling (fieldUnits field digits) (2 ^ 149) ⌝ }
+// 1.5 * 2^23: from 2^22 below it to 2^22 above it the floats are the whole numbers, so that a sum with it is rounded to
+// the nearest one.
+const ROUNDING: f32 = 12582912.0;
+
+// The nearest whole number, halves away from zero. A sum leaves a half to the even whole number, so the last digit is
+// set first: it takes a half away from zero and, as a half ends in a 0 here, no other value to a half or past one.
+// Without a branch or a shift, so that a loop over it is vectorised.
+fn nearest_whole(value: f32) -> i16
+    requires { ⌜ T (isWithin largestCeiling value) ⌝ }
+    ensures { λ r. ⌜ r ≡ wholeOf value ⌝ }
 {
-    if field < 126 {
-        return 0;
-    }
-    if 138 <= field {
-        return ceiling;
-    }
-    let shift = 150 - field;
-    let units = 0x80_0000 + digits;
-    if ceiling <= units >> shift {
-        return ceiling;
-    }
-    (2 * units + (1 << shift)) >> (shift + 1)
+    let off_half = f32::from_bits(f32::to_bits(value) | 1);
+    ((off_half + ROUNDING) - ROUNDING) as i16
 }
 
-// The exact value, read from the bits and brought to a whole number by its size; the sign is given back afterwards.
+// The exact value, cut to the ceiling on either side by a packed minimum and a packed maximum, and its whole number.
 pub fn quantise(value: f32, ceiling: u32) -> i16
     requires { ⌜ T (not (isNan value)) ⌝ }
     requires { ⌜ (1 ≤ ceiling) × (ceiling ≤ largestCeiling) ⌝ }
     ensures { λ r. ⌜ r ≡ quantised ceiling value ⌝ }
 {
-    let bits = f32::to_bits(value);
-    let size = rounded_size((bits & 0x7fff_ffff) >> 23, bits & 0x7f_ffff, ceiling) as i16;
-    if bits < 0x8000_0000 { size } else { -size }
+    let top = ceiling as f32;
+    let most = if value < top { value } else { top };
+    let cut = if -top < most { most } else { -top };
+    nearest_whole(cut)
 }
 
 // A size with the sign of a sample; a sample of either zero gives 0.
