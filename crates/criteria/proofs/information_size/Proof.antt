@@ -1,5 +1,6 @@
 -- `information_size` meets its contract.
 use mathlib.Core.Path.{_≡_, sym, ap, _∙_}
+use native.Mathlib.Omega.{arith}
 use borrow.Author.Needs.{needs}
 use lib.IntN.{natAbs}
 use Rattle.polar.specs.MaskLaws.{kind-information, kind-frozen}
@@ -8,7 +9,7 @@ use Rattle.criteria.proofs.information_size.Statement.{statement}
 use Rattle.criteria.proofs.information_size.Tie as tie
 
 size-requires : tie.Need-size-requires
-size-requires c κs = search needs
+size-requires c κs = rw (small-kept (c .args .value) (c .pre)) (omega arith)
 
 is-information-requires : tie.Need-is-information-requires
 is-information-requires c κs = search needs

@@ -39,7 +39,8 @@ shared-slice-copy-out-size : tie.Need-shared-slice-copy-out-size Inv-loop μ-loo
 shared-slice-copy-out-size c = omega arith
 
 size-requires : tie.Need-size-requires Inv-loop μ-loop
-size-requires c κs = rw (small-kept (value (c .before)) (small (c .before))) (small (c .before))
+size-requires c κs =
+    rw (small-kept (value (c .before)) (small (c .before))) (omega (arith, small (c .before)))
 
 smaller-requires : tie.Need-smaller-requires Inv-loop μ-loop
 smaller-requires c κs = search needs
