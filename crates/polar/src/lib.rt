@@ -106,12 +106,12 @@ fn mask_accepted(mask: &[u8], n: usize) -> bool
     is_mask_byte(largest(mask, n))
 }
 
-// How many of the first n positions are information positions.
+// How many of the first n positions are information positions. The counter has 16 bits, so that eight fill a register.
 fn information_count(mask: &[u8], n: usize) -> usize
-    requires { ⌜ n ≤ length (now mask) ⌝ }
+    requires { ⌜ (n ≤ length (now mask)) × (n ≤ 2 ^ largestM) ⌝ }
     ensures { λ r. ⌜ r ≡ informationCount (now (mask .entry)) n ⌝ }
 {
-    let mut count = 0;
+    let mut count = 0u16;
     let mut i = 0;
     while i < n {
         if is_information(mask[i]) {
@@ -119,7 +119,7 @@ fn information_count(mask: &[u8], n: usize) -> usize
         }
         i += 1;
     }
-    count
+    count as usize
 }
 
 // The tests that the coder and the read-out share: 1; 7, the mask or the slice of N elements beside it; 8; 9.

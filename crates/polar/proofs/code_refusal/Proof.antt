@@ -8,6 +8,7 @@ use borrow.Author.Tests.{le-leb, lt-leb, not-true, not-false}
 use denote.Ref.{now}
 use lib.Dec.{leb}
 use lib.ListN.{length}
+use lib.Pow.{pow-mono}
 use Rattle.calls.specs.Bounds.{largestM}
 use Rattle.calls.specs.Numbers.{between}
 use Rattle.polar.specs.Mask.{maskAccepted}
@@ -83,7 +84,8 @@ returns-5 c =
     )
 
 information-count-requires : tie.Need-information-count-requires
-information-count-requires c κs = omega arith
+information-count-requires c κs =
+    (omega arith, rw (c .before .before .before .before .power-of-two .ensures) (pow-mono {j = largestM} (omega arith)))
 
 returns-6 : tie.Need-returns-6
 returns-6 c =

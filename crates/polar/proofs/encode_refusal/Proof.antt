@@ -2,6 +2,7 @@
 use mathlib.Core.Path.{_≡_, sym, ap, _∙_}
 use borrow.Author.Needs.{needs}
 use denote.Ref.{now}
+use lib.Pow.{pow-mono}
 use Rattle.calls.specs.Numbers.{numberOf}
 use Rattle.calls.specs.NumberLaws.{refused-first}
 use Rattle.polar.specs.Code.{codeNumber}
@@ -32,7 +33,8 @@ power-of-two-requires : tie.Need-power-of-two-requires
 power-of-two-requires c κs = accepted c .size
 
 information-count-requires : tie.Need-information-count-requires
-information-count-requires c κs = rw (c .power-of-two .ensures) (accepted (c .before) .mask-long)
+information-count-requires c κs =
+    rw (c .power-of-two .ensures) (accepted (c .before) .mask-long, pow-mono (accepted (c .before) .size))
 
 message-refusal-requires : tie.Need-message-refusal-requires
 message-refusal-requires c κs = search needs

@@ -27,7 +27,7 @@ is-information-requires c κs = search needs
 add-count : tie.Need-add-count Inv-loop μ-loop
 add-count c =
     let at = c .before .before .before .before in
-    omega (arith, count-le (at .before .before .args .mask .now) (at .loop .i))
+    omega (arith, count-le (at .before .before .args .mask .now) (at .loop .i), at .before .before .pre)
 
 add-i : tie.Need-add-i Inv-loop μ-loop
 add-i c = omega arith
@@ -48,6 +48,11 @@ loop-again c =
           (c .if1 .came),
     )
 
+cast-result : tie.Need-cast-result Inv-loop μ-loop
+cast-result c =
+    let at = c .before in
+    omega (arith, count-le (at .before .before .args .mask .now) (at .loop .i), at .before .before .pre)
+
 returns : tie.Need-returns Inv-loop μ-loop
 returns c =
     let e : c .before .loop .i ≡ c .before .before .before .args .n = omega arith in rw e at (c .before .loop .inv .1)
@@ -65,4 +70,5 @@ information-count-spec =
     add-i
     loop-less
     loop-again
+    cast-result
     returns)

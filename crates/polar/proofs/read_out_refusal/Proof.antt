@@ -5,6 +5,7 @@ use borrow.Author.Needs.{needs}
 use borrow.Author.Tests.{le-leb, lt-leb}
 use denote.Ref.{now}
 use lib.ListN.{length}
+use lib.Pow.{pow-mono}
 use Rattle.calls.specs.Numbers.{numberOf}
 use Rattle.calls.specs.NumberLaws.{refused-first}
 use Rattle.polar.specs.Code.{codeNumber, informationCount}
@@ -40,7 +41,8 @@ power-of-two-requires : tie.Need-power-of-two-requires
 power-of-two-requires c κs = accepted c .size
 
 information-count-requires : tie.Need-information-count-requires
-information-count-requires c κs = rw (c .power-of-two .ensures) (accepted (c .before) .mask-long)
+information-count-requires c κs =
+    rw (c .power-of-two .ensures) (accepted (c .before) .mask-long, pow-mono (accepted (c .before) .size))
 
 returns : tie.Need-returns
 returns c =
