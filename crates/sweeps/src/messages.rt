@@ -60,24 +60,14 @@ pub fn lower_message(rule: MinSum, work: &[i16], p: usize, d: usize, x: usize, y
 }
 
 // The new message of a position, upper or lower, without a branch: of both its formulas, f is taken once, of the values
-// that belong to it.
-fn combine(
-    rule: MinSum,
-    upper: bool,
-    own: i16,
-    x_after: i16,
-    y_after: i16,
-    x_before: i16,
-    y_before: i16,
-) -> i16
+// that belong to it. The sum need not be cut.
+fn combine(rule: MinSum, upper: bool, own: i16, sum: i16, x: i16, y: i16) -> i16
     requires { ⌜ RuleInRange rule ⌝ }
-    requires { ⌜ (natAbs own ≤ rule .ceiling) × (natAbs «x_after» ≤ rule .ceiling) × (natAbs «y_after» ≤ rule .ceiling)
-        × (natAbs «x_before» ≤ rule .ceiling) × (natAbs «y_before» ≤ rule .ceiling) ⌝ }
-    ensures { λ r. ⌜ r ≡ cond upper (f rule own (add rule «x_after» «y_after»))
-        (add rule (f rule «x_before» «y_before») own) ⌝ }
+    requires { ⌜ (natAbs own ≤ rule .ceiling) × (natAbs sum ≤ rule .ceiling + rule .ceiling)
+        × (natAbs x ≤ rule .ceiling) × (natAbs y ≤ rule .ceiling) ⌝ }
+    ensures { λ r. ⌜ r ≡ cond upper (f rule own sum) (add rule (f rule x y) own) ⌝ }
 {
-    let sum = message::add_cut(rule, x_after, y_after);
-    let part = message::min_sum(rule, pick(upper, own, x_before), pick(upper, sum, y_before));
+    let part = message::min_sum(rule, pick(upper, own, x), pick(upper, sum, y));
     message::add_cut(rule, part, pick(upper, 0, own))
 }
 
@@ -97,12 +87,12 @@ pub fn new_message(
     requires { ⌜ Readable (rule .ceiling) p d x y (now work) ⌝ }
     ensures { λ r. ⌜ r ≡ newAt rule d x y (now (work .entry)) p ⌝ }
 {
+    let sum = get(work, x, p + d) + get(work, y, p + d);
     combine(
         rule,
         upper,
         get(work, x, p),
-        get(work, x, p + d),
-        get(work, y, p + d),
+        sum,
         get(work, x - d, p),
         get(work, y - d, p),
     )
@@ -123,12 +113,12 @@ pub fn partnered(
         × MessageIn (rule .ceiling) (y + q) (now work) ⌝ }
     ensures { λ r. ⌜ r ≡ partneredAt rule upper x y (now (work .entry)) p q ⌝ }
 {
+    let sum = message::add_cut(rule, get(work, x, q), get(work, y, q));
     combine(
         rule,
         upper,
         get(work, x, p),
-        get(work, x, q),
-        get(work, y, q),
+        sum,
         get(work, x, q),
         get(work, y, q),
     )

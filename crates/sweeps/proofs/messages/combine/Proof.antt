@@ -1,5 +1,4 @@
 -- `messages::combine` meets its contract.
--- the value of each intermediate result
 use mathlib.Core.Path.{_≡_, _∙_}
 use mathlib.Core.Bool.{cond}
 use native.Mathlib.Nat.{le-trans}
@@ -9,36 +8,24 @@ use lib.IntN.{pos}
 use mir.Facts.{toZ-ofZ}
 use mir.Syntax.{w16}
 use mir.Val.{toZ, ofZ}
-use Rattle.message.specs.Message.{add, f}
-use Rattle.message.specs.MessageLaws.{add-size, f-size}
 use Rattle.calls.proofs.Signed.{told}
+use Rattle.message.specs.Message.{f}
+use Rattle.message.specs.MessageLaws.{f-size}
 use Rattle.sweeps.proofs.Combined.{picked-size, combined}
 use Rattle.sweeps.proofs.messages.combine.Statement.{statement}
 use Rattle.sweeps.proofs.messages.combine.Tie as tie
 
-module _ (c : tie.After-add-cut) where
-  abbrev start : tie.Start
-  start = c .before
-
-  sum-is : toZ w16 (ofZ w16 (c .add-cut .result))
-      ≡ add (start .args .rule) (start .args .x-after) (start .args .y-after)
-  sum-is =
-      told (c .add-cut .ok)
-      (simp (toZ-ofZ (start .fits .x-after), toZ-ofZ (start .fits .y-after)) at (c .add-cut .ensures))
-
+-- the value of each intermediate result
 module _ (c : tie.After-pick2) where
   abbrev s : tie.Start
-  s = start (c .before .before)
+  s = c .before .before
 
-  first-is : toZ w16 (ofZ w16 (c .before .pick .result)) ≡ cond (s .args .upper) (s .args .own) (s .args .x-before)
+  first-is : toZ w16 (ofZ w16 (c .before .pick .result)) ≡ cond (s .args .upper) (s .args .own) (s .args .x)
   first-is =
-      told (c .before .pick .ok)
-      (simp (toZ-ofZ (s .fits .own), toZ-ofZ (s .fits .x-before)) at (c .before .pick .ensures))
+      told (c .before .pick .ok) (simp (toZ-ofZ (s .fits .own), toZ-ofZ (s .fits .x)) at (c .before .pick .ensures))
 
-  second-is : toZ w16 (ofZ w16 (c .pick2 .result))
-      ≡ cond (s .args .upper) (add (s .args .rule) (s .args .x-after) (s .args .y-after)) (s .args .y-before)
-  second-is =
-      told (c .pick2 .ok) (simp (sum-is (c .before .before), toZ-ofZ (s .fits .y-before)) at (c .pick2 .ensures))
+  second-is : toZ w16 (ofZ w16 (c .pick2 .result)) ≡ cond (s .args .upper) (s .args .sum) (s .args .y)
+  second-is = told (c .pick2 .ok) (simp (toZ-ofZ (s .fits .sum), toZ-ofZ (s .fits .y)) at (c .pick2 .ensures))
 
 module _ (c : tie.After-pick3) where
   abbrev after2 : tie.After-pick2
@@ -48,15 +35,12 @@ module _ (c : tie.After-pick3) where
   t = s after2
 
   part-is : toZ w16 (ofZ w16 (c .before .min-sum .result))
-      ≡ f (t .args .rule) (cond (t .args .upper) (t .args .own) (t .args .x-before))
-      (cond (t .args .upper) (add (t .args .rule) (t .args .x-after) (t .args .y-after)) (t .args .y-before))
+      ≡ f (t .args .rule) (cond (t .args .upper) (t .args .own) (t .args .x))
+      (cond (t .args .upper) (t .args .sum) (t .args .y))
   part-is = told (c .before .min-sum .ok) (simp (first-is after2, second-is after2) at (c .before .min-sum .ensures))
 
   third-is : toZ w16 (ofZ w16 (c .pick3 .result)) ≡ cond (t .args .upper) (pos 0) (t .args .own)
   third-is = told (c .pick3 .ok) (simp (toZ-ofZ (t .fits .own)) at (c .pick3 .ensures))
-
-add-cut-requires : tie.Need-add-cut-requires
-add-cut-requires c κs = search needs
 
 pick-requires : tie.Need-pick-requires
 pick-requires c κs = search needs
@@ -69,26 +53,23 @@ min-sum-requires c κs =
     let h = s c .pre in (
       h .0,
       (
-        rw (first-is c) (picked-size (s c .args .upper) (s c .args .own) (s c .args .x-before) (h .1 .0) (h .1 .3)),
+        rw (first-is c) (picked-size (s c .args .upper) (s c .args .own) (s c .args .x) (h .1 .0) (h .1 .2)),
         rw (second-is c)
-            (le-trans
-            (picked-size (s c .args .upper) _ (s c .args .y-before)
-            (add-size (s c .args .rule) (s c .args .x-after) (s c .args .y-after)) (h .1 .4))
-            (omega arith)),
+            (picked-size (s c .args .upper) (s c .args .sum) (s c .args .y) (h .1 .1) (omega (arith, h .1 .3))),
       ),
     )
 
 pick-requires-3 : tie.Need-pick-requires-3
 pick-requires-3 c κs = omega arith
 
-add-cut-requires-2 : tie.Need-add-cut-requires-2
-add-cut-requires-2 c κs =
+add-cut-requires : tie.Need-add-cut-requires
+add-cut-requires c κs =
     let h = t c .pre in (
       h .0,
       (
         rw (part-is c)
-            (le-trans (f-size _ (cond (t c .args .upper) (t c .args .own) (t c .args .x-before)) _ (h .0 .scale-le))
-            (picked-size (t c .args .upper) (t c .args .own) (t c .args .x-before) (h .1 .0) (h .1 .3))),
+            (le-trans (f-size _ (cond (t c .args .upper) (t c .args .own) (t c .args .x)) _ (h .0 .scale-le))
+            (picked-size (t c .args .upper) (t c .args .own) (t c .args .x) (h .1 .0) (h .1 .2))),
         rw (third-is c) (picked-size (t c .args .upper) (pos 0) (t c .args .own) (omega arith) (h .1 .0)),
       ),
     )
@@ -96,18 +77,11 @@ add-cut-requires-2 c κs =
 returns : tie.Need-returns
 returns c =
     let t = t (c .before) in
-    told (c .add-cut2 .ok) (c .add-cut2 .ensures)
+    told (c .add-cut .ok) (c .add-cut .ensures)
     ∙ simp (part-is (c .before), third-is (c .before))
     (combined _ (t .args .upper) (t .args .own) _ _ _ (t .pre .0 .scale-le) (t .pre .1 .0))
 
 pub combine-spec : {M : Type 1} → statement M
 combine-spec =
     tie.close
-    (tie.spec
-    add-cut-requires
-    pick-requires
-    pick-requires-2
-    min-sum-requires
-    pick-requires-3
-    add-cut-requires-2
-    returns)
+    (tie.spec pick-requires pick-requires-2 min-sum-requires pick-requires-3 add-cut-requires returns)
