@@ -87,8 +87,8 @@ pub fn both(a: bool, b: bool) -> bool
 }
 
 // The size of a message, or of a sum of two. The negation has 32 bits: of one with 16, which must not overflow, the
-// compiler concludes that a size is 0 or more, and where f compares two as signed numbers it compares unsigned ones, for
-// which SSE2 has no minimum of 16 bits.
+// compiler concludes that a size is 0 or more, and where f compares two as signed numbers it compares unsigned ones,
+// for which SSE2 has no minimum of 16 bits.
 pub fn size(value: i16) -> u16
     requires { ⌜ natAbs value ≤ 32767 ⌝ }
     ensures { λ r. ⌜ r ≡ natAbs value ⌝ }

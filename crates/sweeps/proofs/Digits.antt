@@ -1,5 +1,5 @@
--- The digit that says on which side a position is: in runs that are shorter than the distance, one distance further, and
--- behind a whole number of pairs of runs.
+-- The digit that says on which side a position is: in runs that are shorter than the distance, one distance further,
+-- and behind a whole number of pairs of runs.
 use Prim.Native.Nat.{ℕ, suc, _+_, _-_, _*_, _/_, _%_, _^_, _≤_, _<_}
 use mathlib.Core.Path.{_≡_, sym, ap, subst, _∙_}
 use native.Mathlib.Nat.{add-div-right, add-mul-div-right, mul-assoc, suc-mul, mul-le-mul-right, pow-suc}

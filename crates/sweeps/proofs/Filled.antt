@@ -64,7 +64,8 @@ module _ {rule : MinSum} {m t k x y : ℕ} {done : ℕ → Type 0} {old w : List
       digit-cases t p
       (λ z. let l = partner-lt m t p (rows .distance) hp z in
       rw z (ap₂ (f rule) (ex p hp) (ap₂ (add rule) (ex (p + 2 ^ t) l) (ey (p + 2 ^ t) l))))
-      (λ o. rw o (ap₂ (add rule) (ap₂ (f rule) (ex (p - 2 ^ t) (omega arith)) (ey (p - 2 ^ t) (omega arith))) (ex p hp)))
+      (λ o. let l : p - 2 ^ t < 2 ^ m = omega arith in
+      rw o (ap₂ (add rule) (ap₂ (f rule) (ex (p - 2 ^ t) l) (ey (p - 2 ^ t) l)) (ex p hp)))
 
   -- the n messages from position q on are written
   module _ (q n : ℕ) (g : ℕ → ℤ) (fits : q + n ≤ 2 ^ m) where

@@ -1,5 +1,5 @@
--- Eight pairs out of sixteen positions, and back: where their messages are gathered from, and merged in the order of the
--- positions.
+-- Eight pairs out of sixteen positions, and back: where their messages are gathered from, and merged in the order of
+-- the positions.
 use Prim.Native.Nat.{ℕ, _+_, _-_, _*_, _/_, _^_, _≤_, _<_}
 use mathlib.Core.Path.{_≡_, refl, sym, ap, _∙_}
 use mathlib.Core.Bool.{Bool, true, false, _&&_, true≢false}
@@ -56,11 +56,16 @@ both true b e = (refl, e)
 both false b e = absurd (true≢false (sym e))
 
 module _ (d i : ℕ) (h : OfPairs d) (l : i < 16) where
+  tested : (ltb (pairOf d i) 8 ≡ true) × (eqb (upperOf d (pairOf d i) + bitAnd i d) i ≡ true)
+  tested =
+      both (ltb (pairOf d i) 8) (eqb (upperOf d (pairOf d i) + bitAnd i d) i)
+      (every-at 16 i (isOfPair d) h l)
+
   pub pair-lt : pairOf d i < 8
-  pair-lt = ltb-true (pairOf d i) 8 (both (ltb (pairOf d i) 8) (eqb (upperOf d (pairOf d i) + bitAnd i d) i) (every-at 16 i (isOfPair d) h l) .0)
+  pair-lt = ltb-true (pairOf d i) 8 (tested .0)
 
   of-pair : upperOf d (pairOf d i) + bitAnd i d ≡ i
-  of-pair = eqb-true _ i (both (ltb (pairOf d i) 8) (eqb (upperOf d (pairOf d i) + bitAnd i d) i) (every-at 16 i (isOfPair d) h l) .1)
+  of-pair = eqb-true _ i (tested .1)
 
 -- the upper position of a pair, and its partner, are among the sixteen
 pub upper-lt : (d i : ℕ) → i < 8 → upperOf d i < 16

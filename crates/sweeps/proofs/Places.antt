@@ -67,7 +67,8 @@ module _ (rule : MinSum) (t x y : ℕ) (w : List ℤ) (i : ℕ) (hx : 2 ^ t ≤ 
       rw (ne-eqb (bitAnd i (2 ^ t)) 0 (λ n. omega (arith, lower-test t i o, pow-pos t)), ex, ey, e)
 
   -- of the message that the exclusive-or finds
-  pub partnered-new : partneredAt rule (eqb (bitAnd i (2 ^ t)) 0) x y w i (bitXor i (2 ^ t)) ≡ newAt rule (2 ^ t) x y w i
+  pub partnered-new : partneredAt rule (eqb (bitAnd i (2 ^ t)) 0) x y w i (bitXor i (2 ^ t))
+      ≡ newAt rule (2 ^ t) x y w i
   partnered-new =
       digit-cases t i
       (λ z. rw (new-upper z, eq-eqb (bitAnd i (2 ^ t)) 0 (upper-test t i z), upper-partner t i z))

@@ -41,7 +41,8 @@ module _ (c : tie.In-loop Inv-loop μ-loop) where
   -- what a chunk over the distance d requires
   ready : (d : ℕ) → d ≡ 2 ^ start .args .t → let a = start .args in
       let n = at .before .power-of-two .result in
-      RuleInRange (a .rule) × (ReadableRun (a .rule) 16 d (a .x * n + at .loop .p) (a .y * n + at .loop .p) (at .loop .work)
+      let p = at .loop .p in
+      RuleInRange (a .rule) × (ReadableRun (a .rule) 16 d (a .x * n + p) (a .y * n + p) (at .loop .work)
       × (a .k * n + at .loop .p + 16 ≤ length (at .loop .work)))
   ready d ed =
       let h = at .loop .inv in (

@@ -37,6 +37,9 @@ Inv-loop rule to x y work x-upper x-lower y-upper y-lower upper₀ lower₀ i₀
 abbrev μ-loop : tie.MeasureT-loop
 μ-loop rule to x y work x-upper x-lower y-upper y-lower upper₀ lower₀ i₀ upper lower i = 8 - i
 
+abbrev start : tie.At-loop Inv-loop μ-loop → tie.Start Inv-loop μ-loop
+start at = at .before .before .before .before .before .before .before .before .before
+
 room : (s : tie.Start Inv-loop μ-loop) → let a = s .args in
     (a .x + 2 + 16 ≤ length (now (a .work))) × (a .y + 2 + 16 ≤ length (now (a .work)))
 room s = let a = s .args in gather-room (a .rule) 2 (a .x) (a .y) (now (a .work)) (s .pre .1 .0)
@@ -175,7 +178,7 @@ loop-again c =
     )
 
 put-merged-2-requires : tie.Need-put-merged-2-requires Inv-loop μ-loop
-put-merged-2-requires c κs = c .before .before .before .before .before .before .before .before .before .before .before .before .before .pre .1 .1
+put-merged-2-requires c κs = start (c .before .before .before .before) .pre .1 .1
 
 same-length : tie.Need-same-length Inv-loop μ-loop
 same-length c = search needs
@@ -185,7 +188,7 @@ unfolding newRun
 returns c =
     let at = c .before .before .before .before .before .before in
     let h = at .loop .inv in
-    let a = c .before .before .before .before .before .before .before .before .before .before .before .before .before .before .before .args in
+    let a = start at .args in
     let r = h .1 .ready 0 (omega arith) .before in
     c .before .put-merged-2 .ensures
     ∙ overwriteFrom-same (a .to) 16 _ (newAt (a .rule) 2 (a .x) (a .y) (now (a .work))) (now (a .work))

@@ -45,7 +45,9 @@ module _ (c : tie.In-loop Inv-loop μ-loop) where
       omega (arith, part-room (h .0) (at .loop .p) 1 (omega arith) rows (h .5) j l (omega arith))
 
   ends : at .loop .p + 8 ≤ 2 ^ start .args .m
-  ends = let h = at .loop .inv in run-end (h .0) (h .1) 3 (at .loop .p) (start .pre .1 .1) (h .4) (omega arith) rows (h .5)
+  ends =
+      let h = at .loop .inv in
+      run-end (h .0) (h .1) 3 (at .loop .p) (start .pre .1 .1) (h .4) (omega arith) rows (h .5)
 
 power-of-two-requires : tie.Need-power-of-two-requires Inv-loop μ-loop
 power-of-two-requires c κs = omega arith
@@ -54,7 +56,9 @@ power-of-two-requires-2 : tie.Need-power-of-two-requires-2 Inv-loop μ-loop
 power-of-two-requires-2 c κs = omega arith
 
 sub-end : tie.Need-sub-end Inv-loop μ-loop
-sub-end c = rw (c .before .power-of-two .ensures, c .power-of-two2 .ensures) (pow-mono {i = c .before .before .args .t} {j = c .before .before .args .m} (omega arith))
+sub-end c =
+    let a = c .before .before .args in
+    rw (c .before .power-of-two .ensures, c .power-of-two2 .ensures) (pow-mono {i = a .t} {j = a .m} (omega arith))
 
 loop-holds : tie.Need-loop-holds Inv-loop μ-loop
 loop-holds c = (

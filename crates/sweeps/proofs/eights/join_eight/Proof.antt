@@ -68,7 +68,8 @@ add-put c = omega (arith, c .before .before .before .before .before .before .bef
 
 put-requires-2 : tie.Need-put-requires-2 Inv-loop μ-loop
 put-requires-2 c κs =
-    omega (arith, c .before .before .before .put .kept .1 .1 .0, c .before .before .before .before .before .before .before .before .pre)
+    let first = c .before .before .before in
+    omega (arith, first .put .kept .1 .1 .0, first .before .before .before .before .before .pre)
 
 same-length : tie.Need-same-length Inv-loop μ-loop
 same-length c = search needs

@@ -106,7 +106,8 @@ same-length c = c .before .loop .inv .4 .long
 returns : tie.Need-returns Inv-loop μ-loop
 returns c =
     let h = c .before .loop .inv in
-    front-all (h .0) (c .before .loop .p) 0 (omega arith) (c .before .before .before .before .pre .1 .0) (h .4) (omega arith)
+    let s = c .before .before .before .before in
+    front-all (h .0) (c .before .loop .p) 0 (omega arith) (s .pre .1 .0) (h .4) (omega arith)
 
 pub by-neighbours-spec : {M : Type 1} → statement M
 by-neighbours-spec =

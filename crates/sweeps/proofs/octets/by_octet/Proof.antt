@@ -12,7 +12,8 @@ power-of-two-requires : tie.Need-power-of-two-requires
 power-of-two-requires c κs = search needs
 
 mask-table-requires : tie.Need-mask-table-requires
-mask-table-requires c κs = rw (c .power-of-two .ensures) (pow-lt {i = c .before .args .t} {j = 3} (c .before .pre .1 .distance))
+mask-table-requires c κs =
+    rw (c .power-of-two .ensures) (pow-lt {i = c .before .args .t} {j = 3} (c .before .pre .1 .distance))
 
 mul-octet-1 : tie.Need-mul-octet-1
 mul-octet-1 c = search needs
@@ -26,7 +27,8 @@ octet-1-requires c κs =
     let table = c .before .before .before .mask-table .ensures in
     let et : 0 ≡ s .args .t = omega arith in
     let ed : 1 ≡ 2 ^ s .args .t = ap (λ (u : ℕ). 2 ^ u) et in
-    (s .pre .0 .in-range, (rw (c .before .before .before .before .power-of-two .ensures ∙ sym ed) at table, octet-readable (s .pre .0) (s .pre .1) 1 ed))
+    let power = c .before .before .before .before .power-of-two .ensures in
+    (s .pre .0 .in-range, (rw (power ∙ sym ed) at table, octet-readable (s .pre .0) (s .pre .1) 1 ed))
 
 mul-put : tie.Need-mul-put
 mul-put c = search needs
@@ -46,7 +48,8 @@ octet-2-requires c κs =
     let table = c .before .before .before .before .mask-table .ensures in
     let et : 1 ≡ s .args .t = omega arith in
     let ed : 2 ≡ 2 ^ s .args .t = ap (λ (u : ℕ). 2 ^ u) et in
-    (s .pre .0 .in-range, (rw (c .before .before .before .before .before .power-of-two .ensures ∙ sym ed) at table, octet-readable (s .pre .0) (s .pre .1) 2 ed))
+    let power = c .before .before .before .before .before .power-of-two .ensures in
+    (s .pre .0 .in-range, (rw (power ∙ sym ed) at table, octet-readable (s .pre .0) (s .pre .1) 2 ed))
 
 mul-put-2 : tie.Need-mul-put-2
 mul-put-2 c = search needs
@@ -66,7 +69,8 @@ octet-4-requires c κs =
     let table = c .before .before .before .before .mask-table .ensures in
     let et : 2 ≡ s .args .t = omega arith in
     let ed : 4 ≡ 2 ^ s .args .t = ap (λ (u : ℕ). 2 ^ u) et in
-    (s .pre .0 .in-range, (rw (c .before .before .before .before .before .power-of-two .ensures ∙ sym ed) at table, octet-readable (s .pre .0) (s .pre .1) 4 ed))
+    let power = c .before .before .before .before .before .power-of-two .ensures in
+    (s .pre .0 .in-range, (rw (power ∙ sym ed) at table, octet-readable (s .pre .0) (s .pre .1) 4 ed))
 
 mul-put-3 : tie.Need-mul-put-3
 mul-put-3 c = search needs

@@ -54,7 +54,9 @@ power-of-two-requires-2 : tie.Need-power-of-two-requires-2 Inv-loop μ-loop
 power-of-two-requires-2 c κs = omega arith
 
 sub-end : tie.Need-sub-end Inv-loop μ-loop
-sub-end c = rw (c .before .power-of-two .ensures, c .power-of-two2 .ensures) (pow-mono {i = c .before .before .args .t} {j = c .before .before .args .m} (omega arith))
+sub-end c =
+    let a = c .before .before .args in
+    rw (c .before .power-of-two .ensures, c .power-of-two2 .ensures) (pow-mono {i = a .t} {j = a .m} (omega arith))
 
 loop-holds : tie.Need-loop-holds Inv-loop μ-loop
 loop-holds c = (
