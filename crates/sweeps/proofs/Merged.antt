@@ -11,9 +11,6 @@ use lib.IntN.{ℤ, natAbs}
 use lib.ListN.{length}
 use lib.Pow.{pow-pos}
 use borrow.Author.Tests.{eq-eqb, ne-eqb, ltb-true, eqb-true}
-use mir.Syntax.{w16}
-use mir.Val.{toZ, ofZ}
-use Rattle.calls.proofs.Signed.{held}
 use Rattle.calls.specs.Every.{every}
 use Rattle.calls.specs.EveryLaws.{every-at}
 use Rattle.polar.specs.Columns.{digit}
@@ -113,7 +110,7 @@ module _ {rule : MinSum} {d x y : ℕ} {w xu xl yu yl : List ℤ} (h : GatheredP
   yl-is : messageAt yl i ≡ messageAt w (y + (p + d))
   yl-is = h .y-lower i l ∙ ap (messageAt w) (behind y)
 
-  -- they lie within the ceiling, and so the code holds them
+  -- they lie within the ceiling
   pub xu-small : natAbs (messageAt xu i) ≤ rule .ceiling
   xu-small = rw (h .x-upper i l) (readable .own)
 
@@ -125,21 +122,6 @@ module _ {rule : MinSum} {d x y : ℕ} {w xu xl yu yl : List ℤ} (h : GatheredP
 
   pub yl-small : natAbs (messageAt yl i) ≤ rule .ceiling
   yl-small = rw yl-is (readable .y-after)
-
-  as-held : (z : ℤ) → natAbs z ≤ rule .ceiling → toZ w16 (ofZ w16 z) ≡ z
-  as-held z small = held z (omega (arith, h .in-range .ceiling-le))
-
-  pub xu-held : toZ w16 (ofZ w16 (messageAt xu i)) ≡ messageAt xu i
-  xu-held = as-held (messageAt xu i) xu-small
-
-  pub xl-held : toZ w16 (ofZ w16 (messageAt xl i)) ≡ messageAt xl i
-  xl-held = as-held (messageAt xl i) xl-small
-
-  pub yu-held : toZ w16 (ofZ w16 (messageAt yu i)) ≡ messageAt yu i
-  yu-held = as-held (messageAt yu i) yu-small
-
-  pub yl-held : toZ w16 (ofZ w16 (messageAt yl i)) ≡ messageAt yl i
-  yl-held = as-held (messageAt yl i) yl-small
 
   pub pair-upper : f rule (messageAt xu i) (add rule (messageAt xl i) (messageAt yl i)) ≡ upperAt rule d x y w p
   pair-upper = rw (h .x-upper i l, xl-is, yl-is)

@@ -1,11 +1,14 @@
 -- Arrays of eight, filled one after the other, and runs of the workspace that are written one after the other.
-use Prim.Native.Nat.{ℕ, zero, suc, _+_, _<_}
+use Prim.Native.Nat.{ℕ, zero, suc, _+_, _≤_, _<_}
 use mathlib.Core.Path.{_≡_, refl, sym, ap, _∙_}
 use mathlib.Core.List.{List, [], _∷_}
 use native.Mathlib.Numerals.{add-one}
 use native.Mathlib.Omega.{arith}
-use lib.IntN.{ℤ, pos}
+use lib.IntN.{ℤ, pos, natAbs}
 use lib.ListN.{length, set}
+use mir.Syntax.{w16}
+use mir.Val.{toZ, ofZ}
+use Rattle.calls.proofs.Signed.{held}
 use Rattle.calls.specs.LentMemory.{overwrite, overwriteFrom}
 use Rattle.calls.specs.LentMemoryLaws.{
   length-overwrite,
@@ -16,7 +19,13 @@ use Rattle.calls.specs.LentMemoryLaws.{
   overwriteFrom-none,
   overwriteFrom-store,
 }
+use Rattle.message.specs.declared.MinSum.{MinSum}
+use Rattle.message.specs.MessageLaws.{RuleInRange}
 use Rattle.sweeps.specs.Private.{messageAt}
+
+-- what the code holds of a message within the ceiling
+pub small-held : {rule : MinSum} → RuleInRange rule → (z : ℤ) → natAbs z ≤ rule .ceiling → toZ w16 (ofZ w16 z) ≡ z
+small-held in-range z small = held z (omega (arith, in-range .ceiling-le))
 
 -- the first i elements of an array of eight are those of g
 pub record ArrayPart (i : ℕ) (g : ℕ → ℤ) (values : List ℤ) : Type 0 where

@@ -39,7 +39,10 @@ partneredAt rule upper x y w p q =
     (f rule (messageAt w (x + p)) (add rule (messageAt w (x + q)) (messageAt w (y + q))))
     (add rule (f rule (messageAt w (x + q)) (messageAt w (y + q))) (messageAt w (x + p)))
 
--- there is an element j, and it is a message within the ceiling
+-- element j lies within the ceiling; and there is such an element
+abbrev pub Within : MinSum → List ℤ → ℕ → Type 0
+Within rule w j = natAbs (messageAt w j) ≤ rule .ceiling
+
 abbrev pub MessageIn : ℕ → ℕ → List ℤ → Type 0
 MessageIn C j w = (j < length w) × (natAbs (messageAt w j) ≤ C)
 

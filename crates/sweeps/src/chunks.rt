@@ -3,15 +3,43 @@
 // distance d is a literal, so that the compiler shuffles registers. Pair i has its upper position at i + (i & mask),
 // where the mask is 8 - d: the digits of i from that of weight d on count twice.
 ghost use mathlib.Core.Path.{_≡_};
-ghost use Prim.Native.Nat.{_+_, _≤_};
+ghost use Prim.Native.Nat.{_+_, _≤_, _<_};
 ghost use lib.ListN.{length};
 ghost use Rattle.calls.specs.LentMemory.{overwriteFrom};
+ghost use Rattle.message.specs.Message.{add, f};
 ghost use Rattle.message.specs.MessageLaws.{RuleInRange};
-ghost use Rattle.sweeps.specs.Private.{ReadableRun, Rows, mergedAt, newRun, rowStep};
+ghost use Rattle.sweeps.specs.Private.{
+  messageAt,
+  Within,
+  ReadableRun,
+  Rows,
+  mergedAt,
+  newRun,
+  rowStep,
+};
 ghost use Rattle.sweeps.specs.IterationLaws.{WorkspaceValid};
 use crate::arrays;
 use crate::messages;
 use message::MinSum;
+
+// The new messages of pair i: of its upper position, and of its lower one.
+fn upper_of(rule: MinSum, own: &[i16; 8], x: &[i16; 8], y: &[i16; 8], i: usize) -> i16
+    requires { ⌜ RuleInRange rule × (i < 8) ⌝ }
+    requires { ⌜ Within rule (now own) i × Within rule (now x) i × Within rule (now y) i ⌝ }
+    ensures { λ r. ⌜ r ≡ f rule (messageAt (now (own .entry)) i)
+        (add rule (messageAt (now (x .entry)) i) (messageAt (now (y .entry)) i)) ⌝ }
+{
+    messages::upper(rule, own[i], x[i], y[i])
+}
+
+fn lower_of(rule: MinSum, own: &[i16; 8], x: &[i16; 8], y: &[i16; 8], i: usize) -> i16
+    requires { ⌜ RuleInRange rule × (i < 8) ⌝ }
+    requires { ⌜ Within rule (now own) i × Within rule (now x) i × Within rule (now y) i ⌝ }
+    ensures { λ r. ⌜ r ≡ add rule (f rule (messageAt (now (x .entry)) i) (messageAt (now (y .entry)) i))
+        (messageAt (now (own .entry)) i) ⌝ }
+{
+    messages::lower(rule, own[i], x[i], y[i])
+}
 
 // The new messages of eight pairs over the distance 2, in the order of their positions.
 fn put_merged_2(upper: &[i16; 8], lower: &[i16; 8], at: usize, work: &mut [i16])
@@ -41,8 +69,8 @@ fn chunk_2(rule: MinSum, to: usize, x: usize, y: usize, work: &mut [i16])
     let mut lower = [0i16; 8];
     let mut i = 0;
     while i < 8 {
-        upper[i] = messages::upper(rule, x_upper[i], x_lower[i], y_lower[i]);
-        lower[i] = messages::lower(rule, x_lower[i], x_upper[i], y_upper[i]);
+        upper[i] = upper_of(rule, &x_upper, &x_lower, &y_lower, i);
+        lower[i] = lower_of(rule, &x_lower, &x_upper, &y_upper, i);
         i += 1;
     }
     put_merged_2(&upper, &lower, to, work);
@@ -76,8 +104,8 @@ fn chunk_4(rule: MinSum, to: usize, x: usize, y: usize, work: &mut [i16])
     let mut lower = [0i16; 8];
     let mut i = 0;
     while i < 8 {
-        upper[i] = messages::upper(rule, x_upper[i], x_lower[i], y_lower[i]);
-        lower[i] = messages::lower(rule, x_lower[i], x_upper[i], y_upper[i]);
+        upper[i] = upper_of(rule, &x_upper, &x_lower, &y_lower, i);
+        lower[i] = lower_of(rule, &x_lower, &x_upper, &y_upper, i);
         i += 1;
     }
     put_merged_4(&upper, &lower, to, work);

@@ -16,10 +16,6 @@ use Rattle.sweeps.proofs.Merged.{
   xl-small,
   yu-small,
   yl-small,
-  xu-held,
-  xl-held,
-  yu-held,
-  yl-held,
   pair-upper,
   pair-lower,
   gather-room,
@@ -78,78 +74,30 @@ loop-holds c =
       array-none refl,
     )
 
-mul-upper : tie.Need-mul-upper Inv-loop μ-loop
-mul-upper c = omega arith
-
-array-copy-out-upper : tie.Need-array-copy-out-upper Inv-loop μ-loop
-array-copy-out-upper c = omega arith
-
-mul-upper-2 : tie.Need-mul-upper-2 Inv-loop μ-loop
-mul-upper-2 c = omega arith
-
-array-copy-out-upper-2 : tie.Need-array-copy-out-upper-2 Inv-loop μ-loop
-array-copy-out-upper-2 c = omega arith
-
-mul-upper-3 : tie.Need-mul-upper-3 Inv-loop μ-loop
-mul-upper-3 c = omega arith
-
-array-copy-out-upper-3 : tie.Need-array-copy-out-upper-3 Inv-loop μ-loop
-array-copy-out-upper-3 c = omega arith
-
-upper-requires : tie.Need-upper-requires Inv-loop μ-loop
-upper-requires c κs =
+upper-of-requires : tie.Need-upper-of-requires Inv-loop μ-loop
+upper-of-requires c κs =
     let at = c .before .before .before .before in
     let g = at .loop .inv .1 in
     let i = at .loop .i in
-    let l : i < 8 = omega arith in (
-      g .in-range,
-      (
-        rw (xu-held g i l) (xu-small g i l),
-        rw (xl-held g i l) (xl-small g i l),
-        rw (yl-held g i l) (yl-small g i l),
-      ),
-    )
+    let l : i < 8 = omega arith in
+    ((g .in-range, l), (xu-small g i l, xl-small g i l, yl-small g i l))
 
-mul-upper-4 : tie.Need-mul-upper-4 Inv-loop μ-loop
-mul-upper-4 c = omega arith
+mul-upper : tie.Need-mul-upper Inv-loop μ-loop
+mul-upper c = omega arith
 
 array-set-from-upper : tie.Need-array-set-from-upper Inv-loop μ-loop
 array-set-from-upper c = omega arith
 
-mul-lower : tie.Need-mul-lower Inv-loop μ-loop
-mul-lower c = omega arith
-
-array-copy-out-lower : tie.Need-array-copy-out-lower Inv-loop μ-loop
-array-copy-out-lower c = omega arith
-
-mul-lower-2 : tie.Need-mul-lower-2 Inv-loop μ-loop
-mul-lower-2 c = omega arith
-
-array-copy-out-lower-2 : tie.Need-array-copy-out-lower-2 Inv-loop μ-loop
-array-copy-out-lower-2 c = omega arith
-
-mul-lower-3 : tie.Need-mul-lower-3 Inv-loop μ-loop
-mul-lower-3 c = omega arith
-
-array-copy-out-lower-3 : tie.Need-array-copy-out-lower-3 Inv-loop μ-loop
-array-copy-out-lower-3 c = omega arith
-
-lower-requires : tie.Need-lower-requires Inv-loop μ-loop
-lower-requires c κs =
+lower-of-requires : tie.Need-lower-of-requires Inv-loop μ-loop
+lower-of-requires c κs =
     let at = c .before .before .before .before .before .before .before .before in
     let g = at .loop .inv .1 in
     let i = at .loop .i in
-    let l : i < 8 = omega arith in (
-      g .in-range,
-      (
-        rw (xl-held g i l) (xl-small g i l),
-        rw (xu-held g i l) (xu-small g i l),
-        rw (yu-held g i l) (yu-small g i l),
-      ),
-    )
+    let l : i < 8 = omega arith in
+    ((g .in-range, l), (xl-small g i l, xu-small g i l, yu-small g i l))
 
-mul-lower-4 : tie.Need-mul-lower-4 Inv-loop μ-loop
-mul-lower-4 c = omega arith
+mul-lower : tie.Need-mul-lower Inv-loop μ-loop
+mul-lower c = omega arith
 
 array-set-from-lower : tie.Need-array-set-from-lower Inv-loop μ-loop
 array-set-from-lower c = omega arith
@@ -162,6 +110,7 @@ loop-less c = omega arith
 
 loop-again : tie.Need-loop-again Inv-loop μ-loop
 loop-again c =
+    let first = c .before .before .before .before in
     let at = c .before .before .before .before .before .before .before .before .before in
     let h = at .loop .inv in
     let g = h .1 in
@@ -169,12 +118,8 @@ loop-again c =
     let l : i < 8 = omega arith in (
       omega arith,
       g,
-      array-next (h .2) l
-          (told (c .before .before .before .before .upper .ok) (c .before .before .before .before .upper .ensures)
-          ∙ rw (xu-held g i l, xl-held g i l, yl-held g i l) (pair-upper g i l)),
-      array-next (h .3) l
-          (told (c .lower .ok) (c .lower .ensures)
-          ∙ rw (xu-held g i l, xl-held g i l, yu-held g i l) (pair-lower g i l)),
+      array-next (h .2) l (told (first .upper-of .ok) (first .upper-of .ensures) ∙ pair-upper g i l),
+      array-next (h .3) l (told (c .lower-of .ok) (c .lower-of .ensures) ∙ pair-lower g i l),
     )
 
 put-merged-4-requires : tie.Need-put-merged-4-requires Inv-loop μ-loop
@@ -208,23 +153,11 @@ chunk-4-spec =
     add-gather-2
     gather-requires-4
     loop-holds
+    upper-of-requires
     mul-upper
-    array-copy-out-upper
-    mul-upper-2
-    array-copy-out-upper-2
-    mul-upper-3
-    array-copy-out-upper-3
-    upper-requires
-    mul-upper-4
     array-set-from-upper
+    lower-of-requires
     mul-lower
-    array-copy-out-lower
-    mul-lower-2
-    array-copy-out-lower-2
-    mul-lower-3
-    array-copy-out-lower-3
-    lower-requires
-    mul-lower-4
     array-set-from-lower
     add-i
     loop-less
