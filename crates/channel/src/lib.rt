@@ -65,7 +65,7 @@ fn usable(channel: Channel) -> bool
 }
 
 // Whether the first n samples are finite. It looks at all of them, so that the loop has no branch and is vectorised.
-pub fn all_finite(samples: &[f32], n: usize) -> bool
+fn all_finite(samples: &[f32], n: usize) -> bool
     requires { ⌜ n ≤ length (now samples) ⌝ }
     ensures { λ r. ⌜ r ≡ allFinite n (now (samples .entry)) ⌝ }
 {
