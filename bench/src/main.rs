@@ -154,14 +154,21 @@ fn iteration_table(random: &mut Random) {
 
 fn growth_table(random: &mut Random) {
     println!(
-        "\nOne iteration by m (ns; best of 60 rounds of {CALLS} calls of {LARGEST_LIMIT} iterations at m = 10, twice \
-         the calls at each m below): proved, baseline, SSE2 by hand, SSE2 with the signed product, proved to baseline, \
-         proved to SSE2 by hand, proved to signed product"
+        "\nOne iteration by m (ns; best of 60 rounds, of the two in Rust 6, of {CALLS} calls of {LARGEST_LIMIT} \
+         iterations at m = 10, twice the calls at each m below): proved, baseline, SSE2 by hand, SSE2 with the signed \
+         product, plain, block loops, proved to baseline, proved to SSE2 by hand, proved to signed product"
     );
     for m in 1..=10 {
         let block = noisy(&half(m), 2.5, random);
+        compare_slow(&block);
         let bests = iteration_times::<{ DECODERS.len() }>(&block, 60).map(|(best, _)| best);
-        let columns: String = bests.iter().map(|best| format!(" {best:9.1}")).collect();
+        let all = iteration_times::<{ DECODERS.len() + SLOW.len() }>(&block, 6);
+        let slow = all[DECODERS.len()..].iter().map(|(best, _)| *best);
+        let columns: String = bests
+            .into_iter()
+            .chain(slow)
+            .map(|best| format!(" {best:8.1}"))
+            .collect();
         println!("m = {m:2}{columns}{}", ratios(bests[0], &bests));
     }
 }
