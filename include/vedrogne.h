@@ -2,14 +2,18 @@
  * Vedrogne: polar coder, channel fronts, belief-propagation decoder, a tally for each radio, and the texts of blocks
  * and of their reports.
  *
- * Link with -Ltarget/staticlib -lvedrogne; `rt staticlib vedrogne` writes the archive, target/staticlib/libvedrogne.a.
- * It is for Linux on x86-64 and needs the C library alone. No function allocates memory, keeps a state between calls,
- * or fails to return; different threads may call them at the same time. Of the stack vedrogne_report takes 58 KB,
- * vedrogne_write 16 KB, and every other function less than 4 KB.
+ * x86-64 Linux only: the archive is code for that processor and system. It needs the C library alone.
+ *   from the repository    rt staticlib vedrogne            (proves the library, writes target/staticlib/libvedrogne.a)
+ *                          cc -Iinclude yours.c target/staticlib/libvedrogne.a -o yours
+ *   after `make install`   cc yours.c $(pkg-config --cflags --libs vedrogne) -o yours
+ *
+ * No function allocates memory, keeps a state between calls, or fails to return; different threads may call them at the
+ * same time. VEDROGNE_STACK, below, is how much of the stack a call takes.
  *
  * A block has N = 2^m positions, m from 1 to 10. The mask has a byte for each: 1 frozen, 0 information. K is the number
  * of its information positions. Message bits fill these in rising order. The code's matrix is the m-th power of rows
- * (1,0) and (1,1), without bit reversal. A mask from a usual construction has to be bit-reversed for this decoder.
+ * (1,0) and (1,1), without bit reversal. A mask from a usual construction has to be bit-reversed for this decoder, at
+ * both ends: a peer that codes with the mask in its natural order sends other blocks.
  *
  * Lists are pointers with a length in elements, which may be longer than needed: what is behind is neither read nor
  * written. (A message byte or a sample there refuses nothing.) A text to be read is the exception: all of it counts, to
@@ -22,33 +26,9 @@
  *     meanwhile.
  * Nothing else is required: every value of every number, float and byte is answered.
  *
- * Every function returns 0, or the number of a refusal. After a refusal no memory has changed, save a tally that counts
- * the refusal. Where several numbers apply the lowest is returned, save where a place is named. In the table decode and
- * front stand for every function whose name begins so.
- *
- *    number  refused because                                                   returned by
- *     1      m is outside 1..10                                                all but report
- *     2      the ceiling C is outside 1..2047                                  front, decode, read, write
- *     3      the scale k is outside 1..16                                      decode, read, write
- *     4      the limit T is outside 1..64                                      decode, read, write
- *     5      the criterion is outside 0..4                                     decode, read, write
- *     6      the operand is outside its criterion's range                      decode, read, write
- *     7      a list is shorter than needed. The list of settings and that      all
- *            of the tallies are tested before everything; a message list
- *            shorter than K after 9; the text that write fills after 10
- *     8      a mask value in the first N is neither 0 nor 1                    encode, read_out, decode, read, write
- *     9      the mask has no information position                              encode, read_out, decode, read, write
- *    10      a log-likelihood ratio (LLR) in the first N has a size above C    decode, read, write
- *    11      a factor or the weight is not finite or not above zero            front, save front_erasing
- *    12      a sample in the first N is not finite                             front
- *    13      a message byte in the first K is above 1                          encode
- *    14      the text of a block is malformed. Its length and first three      read
- *            lines are tested before 1, the rest of it before 2
- *    15      the radio's tally can't be counted on: blocks at or above         decode_radio
- *            1,000,000; or blocks not the sum of endings and refusals; or
- *            iterations below the endings or above 200 times them. Tested
- *            before 1 to 10
- *    16      the radio number is above 63. Tested before 15                    decode_radio
+ * Every function returns 0, or the number of a refusal (enum vedrogne_refusal). After a refusal no memory has changed,
+ * save a tally that counts the refusal. Where several numbers apply the lowest is returned, save where a place is
+ * named.
  */
 #ifndef VEDROGNE_H
 #define VEDROGNE_H
@@ -59,6 +39,111 @@
 #ifdef __cplusplus
 extern "C" {
 #endif
+
+/*
+ * The version of header and archive. The second number is that of the last change request in it (2026-07), the third
+ * counts what has changed for a user since. VEDROGNE_VERSION_NUMBER is 10000, 100 and 1 times the three, for #if.
+ */
+#define VEDROGNE_VERSION "0.7.0"
+#define VEDROGNE_VERSION_NUMBER 700
+
+/*
+ * What a function returns: 0, or the number of a refusal. Behind each number: why a call is refused with it, and the
+ * functions that do so; decode and front stand for every function whose name begins so.
+ */
+enum vedrogne_refusal {
+    VEDROGNE_DONE = 0,
+    VEDROGNE_REFUSED_BLOCK_LENGTH = 1,       /* m is outside 1..10: all but report */
+    VEDROGNE_REFUSED_CEILING = 2,            /* the ceiling C is outside 1..2047: front, decode, read, write */
+    VEDROGNE_REFUSED_SCALE = 3,              /* the scale k is outside 1..16: decode, read, write */
+    VEDROGNE_REFUSED_LIMIT = 4,              /* the limit T is outside 1..64: decode, read, write */
+    VEDROGNE_REFUSED_CRITERION = 5,          /* the criterion is outside 0..4: decode, read, write */
+    VEDROGNE_REFUSED_OPERAND = 6,            /* the operand is outside its criterion's range: decode, read, write */
+    VEDROGNE_REFUSED_SHORT_LIST = 7,         /* a list is shorter than needed: all. The list of settings and that of the
+                                                tallies are tested before everything; a message list shorter than K
+                                                after 9; the text that write fills after 10 */
+    VEDROGNE_REFUSED_MASK_VALUE = 8,         /* a mask value in the first N is neither 0 nor 1: encode, read_out,
+                                                decode, read, write */
+    VEDROGNE_REFUSED_NO_INFORMATION = 9,     /* the mask has no information position: as 8 */
+    VEDROGNE_REFUSED_LLR_ABOVE_CEILING = 10, /* a log-likelihood ratio (LLR) in the first N has a size above C: decode,
+                                                read, write */
+    VEDROGNE_REFUSED_CHANNEL_FACTOR = 11,    /* a factor or the weight is not finite or not above zero: front, save
+                                                front_erasing */
+    VEDROGNE_REFUSED_SAMPLE_NOT_FINITE = 12, /* a sample in the first N is not finite: front */
+    VEDROGNE_REFUSED_MESSAGE_BIT = 13,       /* a message byte in the first K is above 1: encode */
+    VEDROGNE_REFUSED_MALFORMED_TEXT = 14,    /* the text of a block is malformed: read. Its length and first three lines
+                                                are tested before 1, the rest of it before 2 */
+    VEDROGNE_REFUSED_UNUSABLE_TALLY = 15,    /* the radio's tally can't be counted on: decode_radio. Blocks at or above
+                                                1,000,000; or blocks not the sum of endings and refusals; or iterations
+                                                below the endings or above 200 times them. Tested before 1 to 10 */
+    VEDROGNE_REFUSED_RADIO_NUMBER = 16       /* the radio number is above 63: decode_radio. Tested before 15 */
+};
+
+/* The places of the list of settings, and how many this version knows. */
+enum vedrogne_setting {
+    VEDROGNE_SETTING_M,         /* 1 to 10: a block has 2^m positions */
+    VEDROGNE_SETTING_CEILING,   /* C, 1 to 2047: every message of the decoder lies from -C to C */
+    VEDROGNE_SETTING_SCALE,     /* k, 1 to 16: a message is k/16 of the min-sum value, cut down to a whole number */
+    VEDROGNE_SETTING_LIMIT,     /* T, 1 to 64: the most iterations */
+    VEDROGNE_SETTING_CRITERION, /* what is tried after each iteration: enum vedrogne_criterion */
+    VEDROGNE_SETTING_OPERAND,   /* the criterion's operand */
+    VEDROGNE_SETTINGS_LENGTH
+};
+
+/* The criteria. */
+enum vedrogne_criterion {
+    /* never holds; operand 0 */
+    VEDROGNE_CRITERION_NEVER = 0,
+    /* no ties, and the marks coded are the coded marks; operand 0 */
+    VEDROGNE_CRITERION_G_MATRIX = 1,
+    /* every soft output has at least the operand's size, as C at a frozen position has; operand 1 to C */
+    VEDROGNE_CRITERION_LEAST_SIZE = 2,
+    /* the marks at the information positions stayed the same at each of the last W iterations; operand W, 1 to 8 */
+    VEDROGNE_CRITERION_STEADY = 3,
+    /* every information position's soft output has at least the operand's size; operand 1 to C. Whatever else is handed
+       in, a call under 4 returns and leaves the same as a call under 2 */
+    VEDROGNE_CRITERION_LEAST_INFORMATION_SIZE = 4
+};
+
+/* Why the decoder ended. */
+enum vedrogne_reason {
+    VEDROGNE_REASON_CRITERION = 1, /* the criterion held */
+    VEDROGNE_REASON_LIMIT = 2      /* the limit was reached without it */
+};
+
+/* A mark is a bit, 0 or 1, or this: the soft output is 0. */
+enum { VEDROGNE_TIE = 2 };
+
+/* The places of the five numbers of a tally, and the lengths of one tally and of the list of all. */
+enum vedrogne_tally {
+    VEDROGNE_TALLY_BLOCKS,
+    VEDROGNE_TALLY_BY_CRITERION, /* endings for the reason VEDROGNE_REASON_CRITERION */
+    VEDROGNE_TALLY_BY_LIMIT,     /* endings for the reason VEDROGNE_REASON_LIMIT */
+    VEDROGNE_TALLY_REFUSALS,
+    VEDROGNE_TALLY_ITERATIONS,
+    VEDROGNE_TALLY_LENGTH,
+    VEDROGNE_RADIOS = 64,
+    VEDROGNE_TALLIES_LENGTH = VEDROGNE_RADIOS * VEDROGNE_TALLY_LENGTH
+};
+
+/* N, and the elements of a workspace, for m from 1 to 10; constant where m is. */
+#define VEDROGNE_BLOCK_LENGTH(m) ((size_t)1 << (m))
+#define VEDROGNE_WORK_LENGTH(m) (2 * ((size_t)(m) + 1) << (m))
+
+/* The largest m, and bytes of texts. */
+enum {
+    VEDROGNE_LARGEST_M = 10,
+    VEDROGNE_LONGEST_TEXT = 32768,      /* of a text that is read; a longer one is refused */
+    VEDROGNE_LONGEST_TIDY_TEXT = 12283, /* enough for vedrogne_write, whatever the block */
+    VEDROGNE_REPORT_LENGTH = 32768      /* what vedrogne_report asks for */
+};
+
+/* Bytes of stack that a call takes at most: measured, not proved (tests/c/stack.c). */
+enum {
+    VEDROGNE_STACK_REPORT = 60 * 1024, /* vedrogne_report */
+    VEDROGNE_STACK_WRITE = 14 * 1024,  /* vedrogne_write */
+    VEDROGNE_STACK = 4 * 1024          /* every other function */
+};
 
 /*
  * Codes a message: block[0..N-1] become the coded bits, a byte of 0 or 1 each.
@@ -129,31 +214,19 @@ uint32_t vedrogne_front_two(
 /*
  * Decodes llr[0..N-1].
  *
- * settings has six elements: m, ceiling, scale, limit, criterion, operand. Fewer are refused with 7, before every other
- * test.
- *   ceiling    C, 1 to 2047: every message of the decoder lies from -C to C
- *   scale      k, 1 to 16: a message is k/16 of the min-sum value, cut down to a whole number
- *   limit      T, 1 to 64: the most iterations
- *   criterion  what is tried after each iteration, and its operand
- *              0   nothing; operand 0
- *              1   no ties, and the marks coded are the coded marks; operand 0
- *              2   every soft output has at least the operand's size, as C at a frozen position has; operand 1 to C
- *              3   the marks at the information positions stayed the same at each of the last W iterations; operand W,
- *                  1 to 8
- *              4   every information position's soft output has at least the operand's size; operand 1 to C. Whatever
- *                  else is handed in, a call under 4 returns and leaves the same as a call under 2
+ * settings has six elements, at the places of enum vedrogne_setting. Fewer are refused with 7, before every other test.
  *
  * Written where the call returns 0, else unchanged:
  *   soft, coded_soft    [0..N-1]: how sure each position and each coded bit is; positive for 0, negative for 1;
  *                       soft at a frozen position is C
- *   mark, coded_mark    [0..N-1]: their bits, 0 or 1, or 2 for a tie (a soft output of 0);
+ *   mark, coded_mark    [0..N-1]: their bits, 0 or 1, or VEDROGNE_TIE for a soft output of 0;
  *                       mark at a frozen position is 0
  *   work                the decoder's messages as they stand at the end; its contents before don't matter
  *   *iterations         the iteration at which the decoder ended, 1 to T
- *   *reason             1: the criterion held; 2: the limit was reached without it
+ *   *reason             enum vedrogne_reason
  *
- * Needed: N elements of mask, llr, soft, mark, coded_soft and coded_mark, 2 (m + 1) N of work. Numbers: 7 for settings,
- * then 1 to 10.
+ * Needed: N elements of mask, llr, soft, mark, coded_soft and coded_mark, 2 (m + 1) N of work, which is
+ * VEDROGNE_WORK_LENGTH(m). Numbers: 7 for settings, then 1 to 10.
  */
 uint32_t vedrogne_decode(
     const uint32_t *settings, size_t settings_len,
@@ -170,10 +243,10 @@ uint32_t vedrogne_decode(
 /*
  * Decodes as vedrogne_decode does, and counts the answer in the tally of the radio, whose number is 0 to 63.
  *
- * tallies has 320 elements: 64 tallies of five numbers, radio r's in tallies[5 r .. 5 r + 4]: blocks, endings by reason
- * 1, endings by reason 2, refusals, iterations. It starts with zeros. Refusals 1 to 10 are counted, as a block with no
- * iterations. The five numbers of the radio are all that is read and written there; yet the whole list counts as
- * memory that the function may write, and no other thread uses it meanwhile.
+ * tallies has 320 elements (VEDROGNE_TALLIES_LENGTH): 64 tallies of five numbers, radio r's in
+ * tallies[5 r .. 5 r + 4], in the order of enum vedrogne_tally. It starts with zeros. Refusals 1 to 10 are counted, as
+ * a block with no iterations. The five numbers of the radio are all that is read and written there; yet the whole list
+ * counts as memory that the function may write, and no other thread uses it meanwhile.
  *
  * Numbers: 7 for fewer than 320 elements of tallies, 7 for fewer than six of settings, 16, 15; none of these is
  * counted, and all tallies stay as they were. Then 1 to 10. What the other 63 tallies hold refuses nothing. From zeros
@@ -214,13 +287,13 @@ uint32_t vedrogne_decode_radio(
  * Reads the text of a block.
  *
  * Written where the call returns 0, else unchanged:
- *   settings    [0..5]: m, ceiling, scale, limit, criterion, operand
+ *   settings    [0..5]: the settings, at the places of enum vedrogne_setting
  *   mask        [0..N-1]: 1 frozen, 0 information
  *   llr         [0..N-1]: the LLRs
  *
  * The decoder accepts what was read. 1,024 elements of mask and llr are enough for every block.
- * Needed: six elements of settings, N of mask and llr. Numbers: 7 for settings; 14 for the text's length and its first
- * three lines; 1; 14 for the rest; 2 to 6; 7 for mask and llr; 8, 9, 10.
+ * Needed: VEDROGNE_SETTINGS_LENGTH elements of settings (six), N of mask and llr. Numbers: 7 for settings; 14 for the
+ * text's length and its first three lines; 1; 14 for the rest; 2 to 6; 7 for mask and llr; 8, 9, 10.
  */
 uint32_t vedrogne_read(
     const uint8_t *text, size_t text_len,
