@@ -33,22 +33,24 @@ static uint32_t front_two(const float *first_samples, const float *second_sample
 /* Decodes a block and counts how it ended; 1 where a call was refused. */
 static int receive(const uint8_t *message, const int16_t *llr, struct count *count)
 {
-    static const uint32_t settings[6] = { M, CEILING, 15, 50, 1, 0 };
-    static int16_t soft[N], coded_soft[N], work[2 * (M + 1) * N];
+    static const uint32_t settings[VEDROGNE_SETTINGS_LENGTH] = {
+        M, CEILING, 15, 50, VEDROGNE_CRITERION_G_MATRIX, 0
+    };
+    static int16_t soft[N], coded_soft[N], work[VEDROGNE_WORK_LENGTH(M)];
     static uint8_t mark[N], coded_mark[N], received[K];
     uint32_t iterations = 0, reason = 0;
     int wrong = 0;
 
-    if (vedrogne_decode(settings, 6, mask, N, llr, N, soft, N, mark, N, coded_soft, N, coded_mark, N, work,
-                        sizeof work / sizeof work[0], &iterations, &reason) != 0
-        || vedrogne_read_out(M, mask, N, mark, N, received, K) != 0) {
+    if (vedrogne_decode(settings, VEDROGNE_SETTINGS_LENGTH, mask, N, llr, N, soft, N, mark, N, coded_soft, N,
+                        coded_mark, N, work, VEDROGNE_WORK_LENGTH(M), &iterations, &reason) != VEDROGNE_DONE
+        || vedrogne_read_out(M, mask, N, mark, N, received, K) != VEDROGNE_DONE) {
         return 1;
     }
     for (int i = 0; i < K; i++) {
         wrong += received[i] != message[i];
     }
-    count->criterion += reason == 1;
-    count->limit += reason == 2;
+    count->criterion += reason == VEDROGNE_REASON_CRITERION;
+    count->limit += reason == VEDROGNE_REASON_LIMIT;
     count->iterations += (int)iterations;
     count->wrong_blocks += wrong > 0;
     count->wrong_bits += wrong;
@@ -80,14 +82,14 @@ int main(void)
 
     for (int n = 0; n < BLOCKS; n++) {
         next_message(&state, message);
-        if (vedrogne_encode(M, mask, N, message, K, block, N) != 0) {
+        if (vedrogne_encode(M, mask, N, message, K, block, N) != VEDROGNE_DONE) {
             return 1;
         }
         channel(&state, first.amplitude, first.noise, block, first_samples);
         channel(&state, second.amplitude, second.noise, block, second_samples);
-        if (vedrogne_front_gaussian(M, CEILING, factor(first), first_samples, N, llr[0], N) != 0
-            || vedrogne_front_gaussian(M, CEILING, factor(second), second_samples, N, llr[1], N) != 0
-            || front_two(first_samples, second_samples, llr[2]) != 0 || receive(message, llr[0], &counts[0])
+        if (vedrogne_front_gaussian(M, CEILING, factor(first), first_samples, N, llr[0], N) != VEDROGNE_DONE
+            || vedrogne_front_gaussian(M, CEILING, factor(second), second_samples, N, llr[1], N) != VEDROGNE_DONE
+            || front_two(first_samples, second_samples, llr[2]) != VEDROGNE_DONE || receive(message, llr[0], &counts[0])
             || receive(message, llr[1], &counts[1]) || receive(message, llr[2], &counts[2])) {
             return 1;
         }

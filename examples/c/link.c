@@ -12,7 +12,7 @@ enum { CEILING = 127 };
 
 /* What a call of the decoder leaves. */
 struct decoded {
-    int16_t soft[N], coded_soft[N], work[2 * (M + 1) * N];
+    int16_t soft[N], coded_soft[N], work[VEDROGNE_WORK_LENGTH(M)];
     uint8_t mark[N], coded_mark[N];
     uint32_t iterations, reason;
 };
@@ -38,18 +38,18 @@ static void print_bits(const char *name, const uint8_t *bits)
 /* 1 where a call was refused, after saying so. */
 static int refused(const char *call, uint32_t number)
 {
-    if (number != 0) {
+    if (number != VEDROGNE_DONE) {
         printf("%s refused %u\n", call, (unsigned)number);
     }
-    return number != 0;
+    return number != VEDROGNE_DONE;
 }
 
 /* Calls the decoder and prints how it ended; 1 where it was refused. */
 static int decode(uint32_t criterion, uint32_t operand, const int16_t *llr, struct decoded *to)
 {
-    const uint32_t settings[6] = { M, CEILING, 15, 50, criterion, operand };
-    if (refused("decode", vedrogne_decode(settings, 6, mask, N, llr, N, to->soft, N, to->mark, N, to->coded_soft, N,
-                                          to->coded_mark, N, to->work, sizeof to->work / sizeof to->work[0],
+    const uint32_t settings[VEDROGNE_SETTINGS_LENGTH] = { M, CEILING, 15, 50, criterion, operand };
+    if (refused("decode", vedrogne_decode(settings, VEDROGNE_SETTINGS_LENGTH, mask, N, llr, N, to->soft, N, to->mark, N,
+                                          to->coded_soft, N, to->coded_mark, N, to->work, VEDROGNE_WORK_LENGTH(M),
                                           &to->iterations, &to->reason))) {
         return 1;
     }
@@ -76,7 +76,7 @@ int main(void)
         return 1;
     }
     printf("%d of %d LLRs have the wrong sign\n", wrong_signs(block, llr), N);
-    if (decode(1, 0, llr, &decoded)) {
+    if (decode(VEDROGNE_CRITERION_G_MATRIX, 0, llr, &decoded)) {
         return 1;
     }
     if (refused("read_out", vedrogne_read_out(M, mask, N, decoded.mark, N, received, K))) {
@@ -84,7 +84,8 @@ int main(void)
     }
     print_bits("received", received);
     printf(memcmp(message, received, K) == 0 ? "the message came back\n" : "the message did not come back\n");
-    if (decode(4, 12, llr, &handset) || decode(2, 12, llr, &desk)) {
+    if (decode(VEDROGNE_CRITERION_LEAST_INFORMATION_SIZE, 12, llr, &handset)
+        || decode(VEDROGNE_CRITERION_LEAST_SIZE, 12, llr, &desk)) {
         return 1;
     }
     printf("criteria 4 and 2: %s outputs\n", memcmp(&handset, &desk, sizeof desk) == 0 ? "the same" : "different");
