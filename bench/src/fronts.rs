@@ -18,6 +18,23 @@ extern "C" {
         llr: *mut i16,
         llr_len: usize,
     ) -> u32;
+    fn vedrogne_front_flipping(
+        m: u32,
+        ceiling: u32,
+        weight: f32,
+        samples: *const f32,
+        samples_len: usize,
+        llr: *mut i16,
+        llr_len: usize,
+    ) -> u32;
+    fn vedrogne_front_erasing(
+        m: u32,
+        ceiling: u32,
+        samples: *const f32,
+        samples_len: usize,
+        llr: *mut i16,
+        llr_len: usize,
+    ) -> u32;
     fn vedrogne_front_two(
         m: u32,
         ceiling: u32,
@@ -65,6 +82,30 @@ pub fn proved(m: usize, ceiling: i16, branches: &[Branch], llr: &mut [i16]) -> u
             _ => panic!("one branch or two"),
         }
     }
+}
+
+/// The LLRs of a flipping channel, by the proved front.
+pub fn flipping(m: usize, ceiling: i16, weight: f32, samples: &[f32], llr: &mut [i16]) -> u32 {
+    let (from, to) = (samples.as_ptr(), llr.as_mut_ptr());
+    // SAFETY: every pointer comes with the length of its own slice
+    unsafe {
+        vedrogne_front_flipping(
+            m as u32,
+            ceiling as u32,
+            weight,
+            from,
+            samples.len(),
+            to,
+            llr.len(),
+        )
+    }
+}
+
+/// The LLRs of an erasing channel, by the proved front.
+pub fn erasing(m: usize, ceiling: i16, samples: &[f32], llr: &mut [i16]) -> u32 {
+    let (from, to) = (samples.as_ptr(), llr.as_mut_ptr());
+    // SAFETY: every pointer comes with the length of its own slice
+    unsafe { vedrogne_front_erasing(m as u32, ceiling as u32, from, samples.len(), to, llr.len()) }
 }
 
 macro_rules! c_front {

@@ -1,10 +1,15 @@
 //! What the benchmark and the curves share: blocks to decode, the proved decoder and fronts behind
 //! their C interface, and the others.
 pub mod blocks;
+pub mod channel;
 pub mod coder;
+pub mod count;
 pub mod fronts;
+pub mod masks;
 pub mod noise;
+pub mod options;
 pub mod plain;
+pub mod plan;
 
 use noise::Random;
 
@@ -15,6 +20,14 @@ pub struct Block {
     pub scale: i16,
     pub mask: Vec<u8>,
     pub llr: Vec<i16>,
+}
+
+impl Block {
+    /// The code's rate: information positions for each position.
+    pub fn rate(&self) -> f64 {
+        let information = self.mask.iter().filter(|frozen| **frozen == 0).count();
+        information as f64 / self.mask.len() as f64
+    }
 }
 
 /// What a decoder leaves.
@@ -106,19 +119,18 @@ fn settings(block: &Block, criterion: (u32, u32), limit: u32) -> [u32; 6] {
     ]
 }
 
-/// The proved decoder, with a criterion and its operand; the iteration at which it ends.
-pub fn proved(block: &Block, criterion: (u32, u32), limit: u32, to: &mut Lent) -> u32 {
-    let settings = settings(block, criterion, limit);
+/// A call of the proved decoder: the iteration at which it ends, or the number of its refusal.
+pub fn decode(settings: &[u32; 6], mask: &[u8], llr: &[i16], to: &mut Lent) -> Result<u32, u32> {
     let (mut iterations, mut reason) = (0, 0);
     // SAFETY: every pointer comes with the length of its own vector
     let refused = unsafe {
         vedrogne_decode(
             settings.as_ptr(),
             settings.len(),
-            block.mask.as_ptr(),
-            block.mask.len(),
-            block.llr.as_ptr(),
-            block.llr.len(),
+            mask.as_ptr(),
+            mask.len(),
+            llr.as_ptr(),
+            llr.len(),
             to.soft.as_mut_ptr(),
             to.soft.len(),
             to.mark.as_mut_ptr(),
@@ -133,11 +145,18 @@ pub fn proved(block: &Block, criterion: (u32, u32), limit: u32, to: &mut Lent) -
             &mut reason,
         )
     };
-    assert_eq!(
-        refused, 0,
-        "the proved decoder refuses a block of the benchmark"
-    );
-    iterations
+    if refused == 0 {
+        Ok(iterations)
+    } else {
+        Err(refused)
+    }
+}
+
+/// The proved decoder, with a criterion and its operand; the iteration at which it ends.
+pub fn proved(block: &Block, criterion: (u32, u32), limit: u32, to: &mut Lent) -> u32 {
+    let settings = settings(block, criterion, limit);
+    decode(&settings, &block.mask, &block.llr, to)
+        .expect("the proved decoder refuses a block of the benchmark")
 }
 
 /// The same for a radio, with the call counted in a list of tallies; the iteration at which it ends.
@@ -244,11 +263,6 @@ c_decoder!(
     sse2_signed_decode
 );
 
-/// A mask of rate one half.
-pub fn half(m: usize) -> Vec<u8> {
-    noise::mask(m, 1 << (m - 1), 2.0)
-}
-
 /// A block with this mask after a Gaussian channel, at a ratio Eb/N0 for rate one half.
 pub fn noisy(mask: &[u8], db: f64, random: &mut Random) -> Block {
     let ceiling = 2047;
@@ -277,11 +291,4 @@ pub fn arbitrary(m: usize, random: &mut Random) -> Block {
             .map(|_| random.below(2 * ceiling as u64 + 1) as i16 - ceiling)
             .collect(),
     }
-}
-
-/// The number of blocks that the command line asks for, or else `usual`.
-pub fn blocks_asked_for(usual: u32) -> u32 {
-    std::env::args()
-        .nth(1)
-        .map_or(usual, |count| count.parse().expect("a number of blocks"))
 }

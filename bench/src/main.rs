@@ -2,10 +2,10 @@
 //! once, and a figure is the best or the median of all rounds.
 use bench::coder::{self, Code, Coder};
 use bench::fronts::{self, Branch, Front};
+use bench::masks::{self, half};
 use bench::noise::{self, Random};
 use bench::{
-    arbitrary, baseline, blocks, half, lent, noisy, plain, proved, proved_for_radio, sse2,
-    sse2_signed,
+    arbitrary, baseline, blocks, lent, noisy, plain, proved, proved_for_radio, sse2, sse2_signed,
 };
 use bench::{Block, Decoder, Lent};
 use std::time::Instant;
@@ -210,7 +210,7 @@ fn criteria_table(random: &mut Random) {
     );
     // fewer information positions can be decoded with more noise
     for (information, db) in [(512, 2.5), (32, -8.0)] {
-        let mask = noise::mask(10, information, db);
+        let mask = masks::gaussian(10, information, db);
         let blocks: Vec<Block> = (0..100).map(|_| noisy(&mask, db, random)).collect();
         let mut to = [lent(10), lent(10)];
         let (mut best, mut iterations) = ([f64::MAX; 2], [0u32; 2]);

@@ -1,5 +1,5 @@
-//! Blocks to decode: a mask, and LLRs or samples of the all-zero message after a Gaussian channel.
-//! How well a block is decoded doesn't depend on the message.
+//! Noise: LLRs or samples of the all-zero message after a Gaussian channel. How well a block is decoded doesn't depend
+//! on the message.
 use crate::fronts::Branch;
 
 /// A small generator of random numbers (splitmix64).
@@ -15,7 +15,7 @@ impl Random {
     }
 
     /// Above 0, at most 1.
-    fn unit(&mut self) -> f64 {
+    pub fn unit(&mut self) -> f64 {
         ((self.word() >> 11) + 1) as f64 / (1u64 << 53) as f64
     }
 
@@ -37,53 +37,14 @@ impl Random {
     }
 }
 
-/// How doubtful a normal LLR of this mean is, from 1 (no knowledge) down to 0, in Chung's approximation.
-fn doubt(mean: f64) -> f64 {
-    if mean < 10.0 {
-        (-0.4527 * mean.powf(0.86) + 0.0218).exp().min(1.0)
-    } else {
-        (std::f64::consts::PI / mean).sqrt() * (-mean / 4.0).exp() * (1.0 - 10.0 / (7.0 * mean))
-    }
+/// The variance of the noise at a ratio Eb/N0, for a code of this rate and amplitude 1.
+pub fn variance_at(db: f64, rate: f64) -> f64 {
+    10f64.powf(-db / 10.0) / (2.0 * rate)
 }
 
-/// The mean with a given doubt, by bisection.
-fn mean_of(doubtful: f64) -> f64 {
-    let (mut low, mut high) = (0.0, 4000.0);
-    for _ in 0..200 {
-        let middle = (low + high) / 2.0;
-        if doubt(middle) > doubtful {
-            low = middle;
-        } else {
-            high = middle;
-        }
-    }
-    low
-}
-
-/// A mask with `information` positions that carry the message, by the Gaussian approximation at a design
-/// signal-to-noise ratio: those with the largest means. The decoder's graph has distance N/2 at the message side, so
-/// the usual order is taken with the digits of the position reversed.
-pub fn mask(m: usize, information: usize, design_db: f64) -> Vec<u8> {
-    let n = 1usize << m;
-    let mut means = vec![2.0 * 10f64.powf(design_db / 10.0)];
-    for _ in 0..m {
-        means = means
-            .iter()
-            .flat_map(|mean| [mean_of(doubt(*mean) * (2.0 - doubt(*mean))), 2.0 * mean])
-            .collect();
-    }
-    let mut order: Vec<usize> = (0..n).collect();
-    order.sort_by(|a, b| means[*b].total_cmp(&means[*a]));
-    let mut mask = vec![1; n];
-    for position in &order[..information] {
-        mask[position.reverse_bits() >> (usize::BITS as usize - m)] = 0;
-    }
-    mask
-}
-
-/// The variance of the noise at a ratio Eb/N0, for a code of rate one half and amplitude 1.
+/// The same for a code of rate one half.
 pub fn variance(db: f64) -> f64 {
-    10f64.powf(-db / 10.0)
+    variance_at(db, 0.5)
 }
 
 /// LLRs at a ratio Eb/N0, for a code of rate one half: the exact ones, 2/σ² times the sample, times `times`, as whole

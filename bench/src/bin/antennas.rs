@@ -1,9 +1,11 @@
 //! Frame error rate and iterations with one antenna and with two, over the signal-to-noise ratio,
 //! as comma-separated values: (1024,512) blocks through the proved front and decoder, under
 //! criterion 1 with a limit of 50. Every point has blocks of its own.
+use bench::count::{self, Stop};
 use bench::fronts::{self, Branch};
 use bench::noise::{self, Random};
-use bench::{blocks_asked_for, lent, proved, Block};
+use bench::options::{print, run, Given};
+use bench::{masks, Block};
 
 /// What the receiver hears, at nine ratios Eb/N0.
 struct Setup {
@@ -78,40 +80,49 @@ impl Setup {
         branches
     }
 
-    /// One point: blocks until 100 frame errors, at most `most`. Prints its line.
-    fn point(&self, db: f64, most: u32, block: &mut Block, random: &mut Random) {
-        let mut to = lent(block.m);
-        let (mut blocks, mut errors, mut iterations) = (0, 0, 0);
-        while blocks < most && errors < 100 {
-            let branches = self.branches(db, random);
-            let refused = fronts::proved(block.m, block.ceiling, &branches, &mut block.llr);
-            assert_eq!(refused, 0, "the proved front refuses a block");
-            iterations += u64::from(proved(block, (1, 0), 50, &mut to));
-            errors += u32::from(to.is_wrong(block));
-            blocks += 1;
-        }
+    /// One point. Prints its line.
+    fn point(&self, db: f64, stop: Stop, block: &mut Block, random: &mut Random) {
         let channel = if self.fading { "fading" } else { "steady" };
         let [first, second] = self.energies;
         let factor = self.second_factor;
-        println!("{channel},{first},{second},{factor},{db},{blocks},{errors},{iterations}");
+        let place = format!("{channel}, energies {first} and {second}, factor {factor}, {db} dB");
+        let point = count::point(&place, block, &[(1, 0)], 50, stop, |block| {
+            let branches = self.branches(db, random);
+            let refused = fronts::proved(block.m, block.ceiling, &branches, &mut block.llr);
+            assert_eq!(refused, 0, "the proved front refuses a block");
+        });
+        let (blocks, count) = (point.blocks, &point.counts[0]);
+        let (errors, iterations) = (count.errors, count.iterations);
+        print(&format!(
+            "{channel},{first},{second},{factor},{db},{blocks},{errors},{iterations}"
+        ));
     }
 }
 
-fn main() {
-    let most = blocks_asked_for(20_000);
+fn antennas(arguments: &[String]) -> Result<(), String> {
+    let given = Given::new(arguments, &["blocks", "errors"], &[])?;
+    let stop = Stop {
+        errors: Some(given.whole("errors", 100, 1..=1_000_000_000)?),
+        blocks: given.whole("blocks", 20_000, 1..=1_000_000_000)?,
+    };
     let mut block = Block {
         m: 10,
         ceiling: 2047,
         scale: 15,
-        mask: noise::mask(10, 512, 2.0),
+        mask: masks::half(10),
         llr: vec![0; 1024],
     };
     let mut random = Random(2026);
-    println!("channel,first,second,second_factor,db,blocks,frame_errors,iterations");
+    print("channel,first,second,second_factor,db,blocks,frame_errors,iterations");
     for setup in &SETUPS {
         for point in 0..9 {
             let db = setup.lowest + setup.step * f64::from(point);
-            setup.point(db, most, &mut block, &mut random);
+            setup.point(db, stop, &mut block, &mut random);
         }
     }
+    Ok(())
+}
+
+fn main() {
+    run("antennas", antennas);
 }

@@ -1,77 +1,128 @@
-//! What the choices of a user do to the proved decoder: factor, scale, ceiling and the order of the mask, on the same
-//! (1024,512) blocks at 2.5 dB under criterion 1 with a limit of 50. Prints the frame error rate and the iterations
-//! on average.
-use bench::noise::{self, Random};
-use bench::{blocks_asked_for, lent, proved, Block};
+//! What the choices of a user do to the proved decoder: factor, scale, ceiling and the order of the mask, one at a
+//! time and all on the same blocks. Prints the frame error rate and the iterations on average.
+use bench::channel::Channel;
+use bench::count::Stop;
+use bench::masks;
+use bench::noise::Random;
+use bench::options::{print, run, Given};
+use bench::plan::{self, Choice, Plan, Usual};
 
-struct Choice {
-    name: &'static str,
-    times: f64,
-    scale: i16,
-    ceiling: i16,
+const USUAL: Usual = Usual {
+    range: |channel| match channel {
+        Channel::Gaussian => [2.5, 2.5, 0.25],
+        Channel::Fading => [12.0, 12.0, 2.0],
+        Channel::Flipping => [0.05, 0.05, 0.01],
+        Channel::Erasing => [0.35, 0.35, 0.025],
+    },
+    stop: Stop {
+        errors: None,
+        blocks: 4000,
+    },
+};
+
+/// A mask in the wrong order fails so often that few blocks show it.
+const BLOCKS_IN_NATURAL_ORDER: u32 = 500;
+
+/// The choices to try, each with the name of what it changes. Of a list that the user hasn't given, what the decoder
+/// refuses is left out: a ceiling below the criterion's operand.
+fn choices(plan: &Plan, given: &Given) -> Result<Vec<(&'static str, Choice)>, String> {
+    let usual = plan.choice;
+    let times = plan::times(given, "try-times", "1,2,4,8,16,32")?;
+    let scales = plan::wholes(given, "try-scale", "12,13,14,15,16")?;
+    let ceilings = plan::wholes(given, "try-ceiling", "31,63,127,255,511,1023")?;
+    let mut choices = Vec::new();
+    if plan.channel != Channel::Erasing {
+        choices.extend(times.iter().map(|times| {
+            (
+                "factor",
+                Choice {
+                    times: *times,
+                    ..usual
+                },
+            )
+        }));
+    } else if given.has("try-times") {
+        return Err("--try-times: an erasing channel has no factor".to_string());
+    }
+    choices.extend(scales.iter().map(|scale| {
+        (
+            "scale",
+            Choice {
+                scale: *scale,
+                ..usual
+            },
+        )
+    }));
+    choices.extend(ceilings.iter().map(|ceiling| {
+        (
+            "ceiling",
+            Choice {
+                ceiling: *ceiling,
+                ..usual
+            },
+        )
+    }));
+    let mut tried = Vec::new();
+    for (name, choice) in choices {
+        match plan.accept("try-", &choice) {
+            Err(slip) if given.has(&format!("try-{name}")) => return Err(slip),
+            Err(_) => {}
+            Ok(()) => tried.push((name, choice)),
+        }
+    }
+    Ok(tried)
 }
 
-fn choice(name: &'static str, times: f64, scale: i16, ceiling: i16) -> Choice {
-    Choice {
-        name,
-        times,
-        scale,
-        ceiling,
-    }
-}
-
-fn try_out(choice: &Choice, mask: &[u8], blocks: u32) {
-    let mut to = lent(10);
-    let mut random = Random(2026);
-    let (mut errors, mut iterations) = (0, 0);
-    for _ in 0..blocks {
-        let llr = noise::llrs(1024, 2.5, choice.times, choice.ceiling, &mut random);
-        let block = Block {
-            m: 10,
-            ceiling: choice.ceiling,
-            scale: choice.scale,
-            mask: mask.to_vec(),
-            llr,
-        };
-        iterations += proved(&block, (1, 0), 50, &mut to);
-        errors += u32::from(to.is_wrong(&block));
-    }
-    let per_block = |count: u32| f64::from(count) / f64::from(blocks);
+/// One line of the table. Every line has the same blocks, since each begins with the seed anew.
+fn try_out(plan: &Plan, name: &str, mask: &[u8], choice: &Choice, at: f64, stop: Stop) {
     let Choice {
-        name,
         times,
         scale,
         ceiling,
     } = choice;
-    println!(
-        "{name:24} {times:4} {scale:4} {ceiling:5} {:9.4} {:7.2}",
-        per_block(errors),
-        per_block(iterations)
+    let place = format!(
+        "{}, {name}, times {times}, scale {scale}, ceiling {ceiling}",
+        plan.channel.place(at)
     );
+    let point = plan.count(&place, (mask, choice), at, stop, &mut Random(plan.seed));
+    let (blocks, count) = (point.blocks, &point.counts[0]);
+    let rate = f64::from(count.errors) / f64::from(blocks);
+    let iterations = count.iterations as f64 / f64::from(blocks);
+    print(&format!(
+        "{name:22} {times:>5} {scale:>6} {ceiling:>8} {blocks:>7} {rate:>17.4} {iterations:>11.2}"
+    ));
+}
+
+fn table(arguments: &[String]) -> Result<(), String> {
+    let given = plan::given(arguments, &["try-times", "try-scale", "try-ceiling"])?;
+    let mut plan = Plan::new(&given, &USUAL)?;
+    plan.criteria.truncate(1);
+    let choices = choices(&plan, &given)?;
+    let few = Stop {
+        blocks: plan.stop.blocks.min(BLOCKS_IN_NATURAL_ORDER),
+        ..plan.stop
+    };
+    for at in &plan.points {
+        let place = plan.channel.place(*at);
+        print(&format!(
+            "{place:22} times  scale  ceiling  blocks  frame error rate  iterations"
+        ));
+        let natural = masks::reversed(&plan.mask);
+        try_out(
+            &plan,
+            "mask in natural order",
+            &natural,
+            &plan.choice,
+            *at,
+            few,
+        );
+        for (name, choice) in &choices {
+            try_out(&plan, name, &plan.mask, choice, *at, plan.stop);
+        }
+    }
+    Ok(())
 }
 
 fn main() {
-    let blocks = blocks_asked_for(4000);
-    let mask = noise::mask(10, 512, 2.0);
-    let natural: Vec<u8> = (0..1024u16)
-        .map(|i| mask[usize::from(i.reverse_bits() >> 6)])
-        .collect();
-    println!(
-        "{:24} {:>4} {:>4} {:>5} {:>9} {:>7}",
-        "", "times", "k", "C", "errors", "iter."
-    );
-    try_out(
-        &choice("mask in natural order", 16.0, 15, 2047),
-        &natural,
-        blocks.min(500),
-    );
-    for times in [1.0, 2.0, 4.0, 8.0, 16.0, 32.0] {
-        try_out(&choice("factor", times, 15, 2047), &mask, blocks);
-    }
-    for scale in [12, 13, 14, 15, 16] {
-        try_out(&choice("scale", 16.0, scale, 2047), &mask, blocks);
-    }
-    for ceiling in [31, 63, 127, 255, 511, 1023] {
-        try_out(&choice("ceiling", 16.0, 15, ceiling), &mask, blocks);
-    }
+    run("choices", table);
 }

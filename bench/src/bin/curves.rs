@@ -1,55 +1,45 @@
-//! Frame error rate and iterations of the proved decoder over the signal-to-noise ratio, for each criterion, as
-//! comma-separated values. All criteria decode the same (1024,512) blocks; the limit is 50.
-use bench::noise::{self, Random};
-use bench::{blocks_asked_for, lent, proved, Block};
+//! Frame error rate and iterations of the proved decoder over a channel's noise, for each criterion, as comma-separated
+//! values. All criteria decode the same blocks, which go through the proved front.
+use bench::channel::Channel;
+use bench::count::Stop;
+use bench::noise::Random;
+use bench::options::{print, run};
+use bench::plan::{given, Plan, Usual};
 
-/// The criteria with their operands.
-const CRITERIA: [(u32, u32); 5] = [(0, 0), (1, 0), (2, 32), (3, 2), (4, 32)];
+const USUAL: Usual = Usual {
+    range: |channel| match channel {
+        Channel::Gaussian => [1.0, 3.5, 0.25],
+        Channel::Fading => [0.0, 16.0, 2.0],
+        Channel::Flipping => [0.03, 0.09, 0.01],
+        Channel::Erasing => [0.3, 0.45, 0.025],
+    },
+    stop: Stop {
+        errors: Some(100),
+        blocks: 20_000,
+    },
+};
 
-struct Count {
-    errors: u32,
-    iterations: u64,
-}
-
-/// One point of every curve: blocks until criterion 1 has 100 frame errors, at most `most`.
-fn point(db: f64, most: u32, mask: &[u8], random: &mut Random) -> (u32, [Count; 5]) {
-    let mut to = lent(10);
-    let mut counts = [0; 5].map(|_| Count {
-        errors: 0,
-        iterations: 0,
-    });
-    let mut blocks = 0;
-    while blocks < most && counts[1].errors < 100 {
-        let llr = noise::llrs(1024, db, 16.0, 2047, random);
-        let block = Block {
-            m: 10,
-            ceiling: 2047,
-            scale: 15,
-            mask: mask.to_vec(),
-            llr,
-        };
-        for (count, criterion) in counts.iter_mut().zip(CRITERIA) {
-            count.iterations += u64::from(proved(&block, criterion, 50, &mut to));
-            count.errors += u32::from(to.is_wrong(&block));
+fn curves(arguments: &[String]) -> Result<(), String> {
+    let plan = Plan::new(&given(arguments, &[])?, &USUAL)?;
+    let mut random = Random(plan.seed);
+    let column = plan.channel.column();
+    print(&format!(
+        "{column},criterion,operand,blocks,frame_errors,iterations"
+    ));
+    for at in &plan.points {
+        let place = plan.channel.place(*at);
+        let with = (&plan.mask[..], &plan.choice);
+        let point = plan.count(&place, with, *at, plan.stop, &mut random);
+        for ((criterion, operand), count) in plan.criteria.iter().zip(&point.counts) {
+            let (blocks, errors, iterations) = (point.blocks, count.errors, count.iterations);
+            print(&format!(
+                "{at},{criterion},{operand},{blocks},{errors},{iterations}"
+            ));
         }
-        blocks += 1;
     }
-    (blocks, counts)
+    Ok(())
 }
 
 fn main() {
-    let most = blocks_asked_for(20_000);
-    let mask = noise::mask(10, 512, 2.0);
-    let mut random = Random(2026);
-    println!("db,criterion,operand,blocks,frame_errors,iterations");
-    for step in 0..=10 {
-        let db = 1.0 + 0.25 * f64::from(step);
-        let (blocks, counts) = point(db, most, &mask, &mut random);
-        for (count, (criterion, operand)) in counts.iter().zip(CRITERIA) {
-            println!(
-                "{db},{criterion},{operand},{blocks},{},{}",
-                count.errors, count.iterations
-            );
-        }
-    }
+    run("curves", curves);
 }
