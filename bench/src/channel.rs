@@ -45,7 +45,7 @@ impl Channel {
         }
     }
 
-    /// The points that there can be. Within them every factor and weight is one that the front takes.
+    /// The points that there can be.
     pub fn bounds(self) -> RangeInclusive<f64> {
         match self {
             Channel::Gaussian | Channel::Fading => -100.0..=100.0,

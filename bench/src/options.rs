@@ -93,8 +93,13 @@ impl Given {
         })
     }
 
-    /// A list of items between commas, each as `read` understands it. Several options that are read alike are told
-    /// apart by `name` alone.
+    /// A number that the decoder itself judges.
+    pub fn setting(&self, name: &str, usual: u32) -> Result<u32, String> {
+        let expected = "a whole number below 2^32";
+        self.value(name, usual, expected, |text| text.parse().ok())
+    }
+
+    /// A list of items between commas, each as `read` understands it.
     pub fn list<T>(
         &self,
         name: &str,

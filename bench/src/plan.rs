@@ -5,12 +5,16 @@ use crate::masks::{self, Design};
 use crate::noise::Random;
 use crate::options::Given;
 use crate::{decode, lent, Block};
+use std::ops::RangeInclusive;
 
 /// The options with a value, save those that make a mask; `help/options.txt` says what they mean.
 const OPTIONS: [&str; 13] = [
     "mask", "channel", "times", "ceiling", "scale", "limit", "criteria", "from", "to", "step",
     "errors", "blocks", "seed",
 ];
+
+/// Multiples of the exact factor. With these every factor and weight is one that the front takes.
+const TIMES: RangeInclusive<f64> = 1e-6..=1e6;
 
 /// What a command takes where its options don't say otherwise.
 pub struct Usual {
@@ -62,11 +66,11 @@ impl Plan {
             mask: mask(given)?,
             channel,
             choice: Choice {
-                times: times(given, "times", "16")?[0],
-                scale: given.whole("scale", 15, 0..=u32::MAX)?,
-                ceiling: given.whole("ceiling", 2047, 0..=u32::MAX)?,
+                times: given.real("times", 16.0, TIMES)?,
+                scale: given.setting("scale", 15)?,
+                ceiling: given.setting("ceiling", 2047)?,
             },
-            limit: given.whole("limit", 50, 0..=u32::MAX)?,
+            limit: given.setting("limit", 50)?,
             criteria: criteria(given)?,
             points: points(given, channel, (usual.range)(channel))?,
             stop,
@@ -128,11 +132,10 @@ impl Plan {
 
 /// The multiples of the exact factor that an option names.
 pub fn times(given: &Given, name: &str, usual: &str) -> Result<Vec<f64>, String> {
-    let read = |item: &str| {
-        let number: f64 = item.parse().ok()?;
-        (1e-6..=1e6).contains(&number).then_some(number)
-    };
-    given.list(name, usual, "a number from 0.000001 to 1000000", read)
+    let expected = "a list of numbers from 0.000001 to 1000000";
+    given.list(name, usual, expected, |item| {
+        item.parse().ok().filter(|number| TIMES.contains(number))
+    })
 }
 
 /// The whole numbers that an option names.
@@ -141,12 +144,19 @@ pub fn wholes(given: &Given, name: &str, usual: &str) -> Result<Vec<u32>, String
     given.list(name, usual, expected, |item| item.parse().ok())
 }
 
+/// The criteria with their operands.
 fn criteria(given: &Given) -> Result<Vec<(u32, u32)>, String> {
     let expected = "a list such as 1,0,2:32 (criterion, or criterion:operand)";
-    given.list("criteria", "1,0,2:32,3:2,4:32", expected, |item| {
+    let criteria = given.list("criteria", "1,0,2:32,3:2,4:32", expected, |item| {
         let (criterion, operand) = item.split_once(':').unwrap_or((item, "0"));
         Some((criterion.parse().ok()?, operand.parse().ok()?))
-    })
+    })?;
+    for (place, (criterion, operand)) in criteria.iter().enumerate() {
+        if criteria[..place].contains(&(*criterion, *operand)) {
+            return Err(format!("--criteria {criterion}:{operand}: named twice"));
+        }
+    }
+    Ok(criteria)
 }
 
 /// The mask in the order that the decoder needs: read from a file, or made.
@@ -164,7 +174,8 @@ fn mask(given: &Given) -> Result<Vec<u8>, String> {
             ));
         }
     }
-    let text = std::fs::read(file).map_err(|error| format!("--mask {file}: {error}"))?;
+    let text =
+        std::fs::read(file).map_err(|error| format!("--mask {file}: can't be read: {error}"))?;
     let mask = masks::read(&text).map_err(|slip| format!("--mask {file}: {slip}"))?;
     let (m, values) = (mask.len().ilog2(), mask.len());
     let asked = given.whole("m", m, 1..=10)?;
@@ -267,9 +278,10 @@ mod tests {
             ),
             ("--channel erasing --times 8", "--times: an erasing channel"),
             ("--times 0", "--times 0: a number from"),
+            ("--criteria 1,2:32,1:0", "--criteria 1:0: named twice"),
             ("--errors 0", "--errors 0: a whole number from 1"),
             ("--natural", "--natural: says how a file is ordered"),
-            ("--mask /nowhere", "--mask /nowhere: No such file"),
+            ("--mask /nowhere", "--mask /nowhere: can't be read"),
             (
                 "--mask /dev/null",
                 "--mask /dev/null: 0 values; a power of two",
