@@ -81,3 +81,48 @@ impl Channel {
         assert_eq!(refused, 0, "the proved front refuses a block");
     }
 }
+
+#[cfg(test)]
+mod tests {
+    use super::*;
+
+    /// The LLRs of one block of 1024, with a mask of rate one half.
+    fn llrs(channel: Channel, point: f64, times: f64) -> Vec<i16> {
+        let mut block = Block {
+            m: 10,
+            ceiling: 2047,
+            scale: 15,
+            mask: crate::masks::half(10),
+            llr: vec![0; 1024],
+        };
+        channel.receive(point, times, &mut block, &mut Random(1));
+        block.llr
+    }
+
+    #[test]
+    fn samples_are_flipped_and_erased() {
+        // 16 ln 9 = 35.2
+        let flipped = llrs(Channel::Flipping, 0.1, 16.0);
+        assert!(flipped.iter().all(|llr| llr.abs() == 35));
+        let share = flipped.iter().filter(|llr| **llr < 0).count();
+        assert!((70..140).contains(&share), "{share} of 1024");
+        assert!(llrs(Channel::Erasing, 0.0, 16.0)
+            .iter()
+            .all(|llr| *llr == 2047));
+        assert!(llrs(Channel::Erasing, 1.0, 16.0)
+            .iter()
+            .all(|llr| *llr == 0));
+    }
+
+    #[test]
+    fn noise_has_the_energy_of_the_rate() {
+        assert_eq!(noise::variance_at(2.5, 0.5), noise::variance(2.5));
+        assert_eq!(noise::variance_at(0.0, 0.25), 2.0);
+        // the mean of an exact LLR is 2/σ², here 20 at 10 dB
+        let sum: i32 = llrs(Channel::Gaussian, 10.0, 1.0)
+            .into_iter()
+            .map(i32::from)
+            .sum();
+        assert!((sum / 1024 - 20).abs() <= 1, "{sum}");
+    }
+}

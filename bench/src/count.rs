@@ -100,3 +100,34 @@ impl Progress<'_> {
         );
     }
 }
+
+#[cfg(test)]
+mod tests {
+    use super::*;
+
+    /// A point of blocks of two positions, of which every third is wrong: for criterion 0, then for criterion 1.
+    fn counted(errors: Option<u32>, blocks: u32) -> (u32, Vec<u32>) {
+        let mut block = Block {
+            m: 1,
+            ceiling: 31,
+            scale: 16,
+            mask: vec![1, 0],
+            llr: vec![0; 2],
+        };
+        let mut number = 0;
+        let stop = Stop { errors, blocks };
+        let point = point("test", &mut block, &[(0, 0), (1, 0)], 5, stop, |block| {
+            number += 1;
+            block.llr.fill(if number % 3 == 0 { -9 } else { 9 });
+        });
+        let errors = point.counts.iter().map(|count| count.errors).collect();
+        (point.blocks, errors)
+    }
+
+    #[test]
+    fn a_point_ends() {
+        assert_eq!(counted(Some(2), 100), (6, vec![2, 2]));
+        assert_eq!(counted(Some(2), 5), (5, vec![1, 1]));
+        assert_eq!(counted(None, 30), (30, vec![10, 10]));
+    }
+}

@@ -88,19 +88,15 @@ impl Plan {
         for (criterion, operand) in &self.criteria {
             let settings = [m, *ceiling, *scale, self.limit, *criterion, *operand];
             let answer = decode(&settings, &self.mask, &zeros, &mut lent(m as usize));
-            let (option, meaning) = match answer {
-                Ok(_) => continue,
-                Err(2) => (format!("--{prefix}ceiling {ceiling}"), "the ceiling is outside 1..2047"),
-                Err(3) => (format!("--{prefix}scale {scale}"), "the scale is outside 1..16"),
-                Err(4) => (format!("--limit {}", self.limit), "the limit is outside 1..64"),
-                Err(5) => (format!("--criteria {criterion}"), "the criterion is outside 0..4"),
-                Err(6) => (
-                    format!("--criteria {criterion}:{operand} with ceiling {ceiling}"),
-                    "the operand is outside its criterion's range (0 for 0 and 1, 1..ceiling for 2 and 4, 1..8 for 3)",
-                ),
-                Err(other) => (format!("number {other}"), "include/vedrogne.h says what it means"),
+            let Err(number) = answer else { continue };
+            let option = match number {
+                2 => format!("--{prefix}ceiling {ceiling}"),
+                3 => format!("--{prefix}scale {scale}"),
+                4 => format!("--limit {}", self.limit),
+                5 => format!("--criteria {criterion}"),
+                _ => format!("--criteria {criterion}:{operand} with ceiling {ceiling}"),
             };
-            let number = answer.unwrap_err();
+            let meaning = meaning(number);
             return Err(format!(
                 "{option}: the decoder refuses it with {number}: {meaning}"
             ));
@@ -127,6 +123,18 @@ impl Plan {
         let receive =
             |block: &mut Block| self.channel.receive(at, choice.times, block, &mut *random);
         count::point(place, &mut block, &self.criteria, self.limit, stop, receive)
+    }
+}
+
+/// What a refusal of the decoder's settings means.
+fn meaning(number: u32) -> &'static str {
+    match number {
+        2 => "the ceiling is outside 1..2047",
+        3 => "the scale is outside 1..16",
+        4 => "the limit is outside 1..64",
+        5 => "the criterion is outside 0..4",
+        6 => "the operand is outside its range (0 for 0 and 1, 1..ceiling for 2 and 4, 1..8 for 3)",
+        _ => "see include/vedrogne.h",
     }
 }
 
@@ -251,50 +259,53 @@ mod tests {
         assert_eq!(tenths, [-0.3, -0.2, -0.1, 0.0, 0.1, 0.2, 0.3]);
     }
 
+    /// Command lines, each with what its slip begins with.
+    const SLIPS: [[&str; 2]; 19] = [
+        [
+            "--ceiling 2048",
+            "--ceiling 2048: the decoder refuses it with 2:",
+        ],
+        ["--scale 17", "--scale 17: the decoder refuses it with 3:"],
+        ["--limit 65", "--limit 65: the decoder refuses it with 4:"],
+        [
+            "--criteria 1,5",
+            "--criteria 5: the decoder refuses it with 5:",
+        ],
+        [
+            "--criteria 3:9",
+            "--criteria 3:9 with ceiling 2047: the decoder refuses it with 6:",
+        ],
+        ["--criteria 1;2", "--criteria 1;2: a list such as"],
+        ["--criteria 1,2:32,1:0", "--criteria 1:0: named twice"],
+        ["--from 4", "--from 4 --to 3.5: the range is empty"],
+        ["--step 0", "--step 0: a number from"],
+        ["--step 0.000001", "--step 0.000001: at most 1000 points"],
+        [
+            "--channel flipping --to 0.5",
+            "--to 0.5: a number from 0.000000001 to 0.499999",
+        ],
+        ["--channel erasing --times 8", "--times: an erasing channel"],
+        ["--times 0", "--times 0: a number from"],
+        ["--errors 0", "--errors 0: a whole number from 1"],
+        ["--natural", "--natural: says how a file is ordered"],
+        ["--mask /nowhere", "--mask /nowhere: can't be read"],
+        [
+            "--mask /dev/null",
+            "--mask /dev/null: 0 values; a power of two",
+        ],
+        [
+            "--mask /dev/null --design 1",
+            "--design: is for a mask to be made",
+        ],
+        [
+            "--m 3 --information 9",
+            "--information 9: a whole number from 1 to 8",
+        ],
+    ];
+
     #[test]
     fn slips_are_named() {
-        for (line, begin) in [
-            (
-                "--ceiling 2048",
-                "--ceiling 2048: the decoder refuses it with 2:",
-            ),
-            ("--scale 17", "--scale 17: the decoder refuses it with 3:"),
-            ("--limit 65", "--limit 65: the decoder refuses it with 4:"),
-            (
-                "--criteria 1,5",
-                "--criteria 5: the decoder refuses it with 5:",
-            ),
-            (
-                "--criteria 3:9",
-                "--criteria 3:9 with ceiling 2047: the decoder refuses it with 6:",
-            ),
-            ("--criteria 1;2", "--criteria 1;2: a list such as"),
-            ("--from 4", "--from 4 --to 3.5: the range is empty"),
-            ("--step 0", "--step 0: a number from"),
-            ("--step 0.000001", "--step 0.000001: at most 1000 points"),
-            (
-                "--channel flipping --to 0.5",
-                "--to 0.5: a number from 0.000000001 to 0.499999",
-            ),
-            ("--channel erasing --times 8", "--times: an erasing channel"),
-            ("--times 0", "--times 0: a number from"),
-            ("--criteria 1,2:32,1:0", "--criteria 1:0: named twice"),
-            ("--errors 0", "--errors 0: a whole number from 1"),
-            ("--natural", "--natural: says how a file is ordered"),
-            ("--mask /nowhere", "--mask /nowhere: can't be read"),
-            (
-                "--mask /dev/null",
-                "--mask /dev/null: 0 values; a power of two",
-            ),
-            (
-                "--mask /dev/null --design 1",
-                "--design: is for a mask to be made",
-            ),
-            (
-                "--m 3 --information 9",
-                "--information 9: a whole number from 1 to 8",
-            ),
-        ] {
+        for [line, begin] in SLIPS {
             let slip = plan(line).err().unwrap_or_default();
             assert!(slip.starts_with(begin), "{line}: {slip}");
         }

@@ -23,54 +23,55 @@ const USUAL: Usual = Usual {
 /// A mask in the wrong order fails so often that few blocks show it.
 const BLOCKS_IN_NATURAL_ORDER: u32 = 500;
 
-/// The choices to try, each with the name of what it changes. Of a list that the user hasn't given, what the decoder
-/// refuses is left out: a ceiling below the criterion's operand.
+/// The choices to try, each with the name of what it changes.
 fn choices(plan: &Plan, given: &Given) -> Result<Vec<(&'static str, Choice)>, String> {
-    let usual = plan.choice;
     let times = plan::times(given, "try-times", "1,2,4,8,16,32")?;
     let scales = plan::wholes(given, "try-scale", "12,13,14,15,16")?;
     let ceilings = plan::wholes(given, "try-ceiling", "31,63,127,255,511,1023")?;
+    let changed = |name, change: &dyn Fn(&mut Choice)| {
+        let mut choice = plan.choice;
+        change(&mut choice);
+        (name, choice)
+    };
     let mut choices = Vec::new();
     if plan.channel != Channel::Erasing {
-        choices.extend(times.iter().map(|times| {
-            (
-                "factor",
-                Choice {
-                    times: *times,
-                    ..usual
-                },
-            )
-        }));
+        choices.extend(
+            times
+                .iter()
+                .map(|it| changed("factor", &|to| to.times = *it)),
+        );
     } else if given.has("try-times") {
         return Err("--try-times: an erasing channel has no factor".to_string());
     }
-    choices.extend(scales.iter().map(|scale| {
-        (
-            "scale",
-            Choice {
-                scale: *scale,
-                ..usual
-            },
-        )
-    }));
-    choices.extend(ceilings.iter().map(|ceiling| {
-        (
-            "ceiling",
-            Choice {
-                ceiling: *ceiling,
-                ..usual
-            },
-        )
-    }));
-    let mut tried = Vec::new();
+    choices.extend(
+        scales
+            .iter()
+            .map(|it| changed("scale", &|to| to.scale = *it)),
+    );
+    choices.extend(
+        ceilings
+            .iter()
+            .map(|it| changed("ceiling", &|to| to.ceiling = *it)),
+    );
+    accepted(plan, given, choices)
+}
+
+/// Those that the decoder takes. A refusal is a slip where the user has given the list; of the default lists what is
+/// refused is left out, a ceiling below the criterion's operand.
+fn accepted(
+    plan: &Plan,
+    given: &Given,
+    choices: Vec<(&'static str, Choice)>,
+) -> Result<Vec<(&'static str, Choice)>, String> {
+    let mut accepted = Vec::new();
     for (name, choice) in choices {
         match plan.accept("try-", &choice) {
             Err(slip) if given.has(&format!("try-{name}")) => return Err(slip),
             Err(_) => {}
-            Ok(()) => tried.push((name, choice)),
+            Ok(()) => accepted.push((name, choice)),
         }
     }
-    Ok(tried)
+    Ok(accepted)
 }
 
 /// One line of the table. Every line has the same blocks, since each begins with the seed anew.

@@ -27,7 +27,7 @@ fn heading(design: &Design, natural: bool) -> String {
     format!(
         "# ({n},{k}) mask, m = {m}, {method} at Eb/N0 = {db} dB: 1 frozen, 0 information\n{order}\n\
          # A peer whose mask has the other order doesn't understand a block coded with this one.\n\
-         # Which positions are frozen is outside of what is proved."
+         # Choosing the mask is outside of what is proved."
     )
 }
 
