@@ -76,11 +76,11 @@ fn accepted(
 
 /// One line of the table. Every line has the same blocks, since each begins with the seed anew.
 fn try_out(plan: &Plan, name: &str, mask: &[u8], choice: &Choice, at: f64, stop: Stop) {
-    let Choice {
-        times,
-        scale,
-        ceiling,
-    } = choice;
+    let Choice { scale, ceiling, .. } = choice;
+    let times = match plan.channel {
+        Channel::Erasing => "-".to_string(),
+        _ => choice.times.to_string(),
+    };
     let place = format!(
         "{}, {name}, times {times}, scale {scale}, ceiling {ceiling}",
         plan.channel.place(at)
