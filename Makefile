@@ -20,13 +20,13 @@ install: all
 	install -d "$(root)/lib/pkgconfig" "$(root)/include" "$(root)/bin" "$(libexec)" "$(man)"
 	install -m 644 target/staticlib/libvedrogne.a "$(root)/lib"
 	install -m 644 include/vedrogne.h "$(root)/include"
-	sed 's|@PREFIX@|$(prefix)|; s|@VERSION@|$(version)|' tools/vedrogne.pc.in >"$(root)/lib/pkgconfig/vedrogne.pc"
+	sed 's|@PREFIX@|$(prefix)|; s|@VERSION@|$(version)|' tools/vedrogne.pc.in | \
+	    install -m 644 /dev/stdin "$(root)/lib/pkgconfig/vedrogne.pc"
 	install -m 755 tools/command $(programs:%=target/bin/%_program) "$(libexec)"
-	sed 's|@VERSION@|$(version)|' docs/vedrogne.1 >"$(man)/vedrogne.1"
+	sed 's|@VERSION@|$(version)|' docs/vedrogne.1 | install -m 644 /dev/stdin "$(man)/vedrogne.1"
 	for what in $(programs); do \
-	    sed "s|@WHAT@|$$what|g" tools/installed.in >"$(root)/bin/vedrogne-$$what"; \
-	    chmod 755 "$(root)/bin/vedrogne-$$what"; \
-	    echo .so man1/vedrogne.1 >"$(man)/vedrogne-$$what.1"; \
+	    sed "s|@WHAT@|$$what|g" tools/installed.in | install -m 755 /dev/stdin "$(root)/bin/vedrogne-$$what" && \
+	    echo .so man1/vedrogne.1 | install -m 644 /dev/stdin "$(man)/vedrogne-$$what.1" || exit; \
 	done
 
 uninstall:
