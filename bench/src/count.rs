@@ -55,7 +55,8 @@ pub fn point(
     point
 }
 
-/// The line on standard error: on a terminal overwritten four times a second, elsewhere one for a finished point.
+/// The line on standard error: on a terminal overwritten four times a second. It stays for each finished point, save
+/// where the point itself is about to be printed on the same terminal.
 struct Progress<'a> {
     place: &'a str,
     stop: Stop,
@@ -92,6 +93,10 @@ impl Progress<'_> {
 
     fn end(&self, point: &Point) {
         let back = if self.terminal { "\r\x1b[K" } else { "" };
+        if self.terminal && std::io::stdout().is_terminal() {
+            eprint!("{back}");
+            return;
+        }
         let (blocks, errors) = (point.blocks, point.counts[0].errors);
         let seconds = self.begun.elapsed().as_secs_f64();
         eprintln!(
