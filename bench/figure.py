@@ -126,9 +126,10 @@ def read(names):
 def styles(curves):
     """For each label its colour, marker and dashes; curves without a place get one beside the others."""
     labels = list(dict.fromkeys(curve.label for curve in curves))
-    places = {x for curve in curves for x, *_ in curve.points}
-    # the places have some 300 points of a panel; all curves together take nine tenths of the way to the next
-    pitch = min(5.5, 270 / max(len(places) - 1, 1) / len(labels))
+    places = sorted({x for curve in curves for x, *_ in curve.points})
+    nearest = min((after - before for before, after in zip(places, places[1:])), default=1)
+    # the places have some 300 points of a panel; all curves together take nine tenths of the way to the nearest place
+    pitch = min(5.5, 270 * nearest / ((places[-1] - places[0]) or 1) / len(labels))
     for curve in curves:
         if curve.beside is None:
             curve.beside = (labels.index(curve.label) - (len(labels) - 1) / 2) * pitch
