@@ -35,7 +35,8 @@ uninstall:
 	rm -f "$(libexec)/command" $(programs:%="$(libexec)/%_program")
 	[ ! -d "$(libexec)" ] || rmdir "$(libexec)"
 
+# the gate runs make too, which isn't to take itself for a part of this one
 check:
-	.ci/run
+	env -u MAKEFLAGS -u MAKELEVEL -u MFLAGS .ci/run
 
 .PHONY: all install uninstall check
