@@ -21,7 +21,7 @@ const USUAL: Usual = Usual {
 };
 
 /// A mask in the wrong order fails so often that few blocks show it.
-const BLOCKS_IN_NATURAL_ORDER: u32 = 500;
+const BLOCKS_IN_OTHER_ORDER: u32 = 500;
 
 /// The choices to try, each with the name of what it changes.
 fn choices(plan: &Plan, given: &Given) -> Result<Vec<(&'static str, Choice)>, String> {
@@ -100,7 +100,7 @@ fn table(arguments: &[String]) -> Result<(), String> {
     plan.criteria.truncate(1);
     let choices = choices(&plan, &given)?;
     let few = Stop {
-        blocks: plan.stop.blocks.min(BLOCKS_IN_NATURAL_ORDER),
+        blocks: plan.stop.blocks.min(BLOCKS_IN_OTHER_ORDER),
         ..plan.stop
     };
     for at in &plan.points {
@@ -108,15 +108,9 @@ fn table(arguments: &[String]) -> Result<(), String> {
         print(&format!(
             "{place:22} times  scale  ceiling  blocks  frame error rate  iterations"
         ));
-        let natural = masks::reversed(&plan.mask);
-        try_out(
-            &plan,
-            "mask in natural order",
-            &natural,
-            &plan.choice,
-            *at,
-            few,
-        );
+        // the natural order, or, of a natural mask that was taken for a reversed one, the one that it needs
+        let other = masks::reversed(&plan.mask);
+        try_out(&plan, "mask in other order", &other, &plan.choice, *at, few);
         for (name, choice) in &choices {
             try_out(&plan, name, &plan.mask, choice, *at, plan.stop);
         }
