@@ -18,6 +18,8 @@ import re
 import sys
 
 NAME = r'[^\s(){}.;,@"«»\[\]]+'
+# a name whose place another one has: at df411a3 a lemma `last_set` stands beside it
+OTHER = {"lastSet": "with_last_set"}
 CLAUSE = re.compile(r"\b(?:requires|ensures)\b\s*\*?\s*(?:\w+\s*)?\{|\bghost\s+use\b|\bghost\s+\w+\s*:\s*\{")
 
 
@@ -27,7 +29,7 @@ def read(path):
 
 
 def snake(name):
-    return re.sub(r"(?<=[a-z0-9])([A-Z])", lambda m: "_" + m[1].lower(), name)
+    return OTHER.get(name) or re.sub(r"(?<=[a-z0-9])([A-Z])", lambda m: "_" + m[1].lower(), name)
 
 
 def ghost_parts(text):
