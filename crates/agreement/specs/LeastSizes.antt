@@ -9,7 +9,7 @@ use Rattle.criteria.specs.Criteria.{least_size, least_information_size}
 use Rattle.settings.specs.declared.Settings.{Settings}
 use Rattle.decoder.specs.Decoder.{soft_at, work_after, holds_after, ending_of, start_of, ending}
 use Rattle.decoder.specs.OutputLaws.{frozen-size-at}
-use Rattle.agreement.specs.CriterionExchanged.{under}
+use Rattle.agreement.specs.SameDecoding.{under}
 
 -- in a workspace: criterion 4 doesn't look at a frozen position, and it passes criterion 2
 pub least-sizes-same : (s : Settings) → s.operand ≤ s.ceiling → (mask : List ℕ) (n : ℕ) (w : List ℤ)

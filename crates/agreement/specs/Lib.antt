@@ -1,4 +1,6 @@
-pub mod CriterionExchanged
+pub mod SameDecoding
 pub mod LeastSizes
 pub mod Agreement
+pub mod OtherContentsCalls
+pub mod OtherContents
 pub mod Cases

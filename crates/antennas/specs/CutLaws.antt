@@ -7,7 +7,7 @@ use Rattle.std.specs.Float.Ieee.{up, down, neg, lt, fits}
 use Rattle.std.specs.Float.Ieee.Fits.{cond-fits}
 use Rattle.calls.specs.Bounds.{largest_ceiling}
 use Rattle.calls.specs.Signs.{flipped}
-use Rattle.channel.specs.Front.{round_half_up, rounded_size, quantised}
+use Rattle.channel.specs.Front.{nearest, rounded_size, quantised}
 use Rattle.antennas.specs.FrontTwo.{largest_product, cut_to}
 
 -- ---- the cut by sign and size
@@ -63,7 +63,7 @@ largest-opposite false = refl
 -- ---- by itself the cut changes no LLR: 4096 is above every ceiling
 
 at-ceiling : (C n d : ℕ) → C * d ≤ n → rounded_size C n d ≡ C
-at-ceiling C n d h = ap (λ (t : Bool). cond t C (round_half_up n d)) (le-leb (C * d) n h)
+at-ceiling C n d h = ap (λ (t : Bool). cond t C (nearest n d)) (le-leb (C * d) n h)
 
 pub quantised-cut : (C : ℕ) (x : Float) → C ≤ largest_ceiling → quantised C (cut_size x) ≡ quantised C x
 unfolding quantised cut_size

@@ -14,7 +14,7 @@ use lib.Ieee.Fits.{down_pos}
 use borrow.Author.Tests.{lt-ltb, ltb-true, ltb-false, le-leb, lt-leb}
 use Rattle.calls.specs.Bounds.{largest_ceiling}
 use Rattle.calls.specs.Signs.{flipped}
-use Rattle.channel.specs.Front.{round_half_up, quantised}
+use Rattle.channel.specs.Front.{nearest, quantised}
 use Rattle.channel.specs.Private.{is_within, whole_of}
 
 top-value : (C : ℕ) → C ≤ largest_ceiling → HasValue (of_int binary32 (pos C)) false C 1
@@ -43,7 +43,7 @@ module _ (C n : ℕ) (d : ℤ) (low : 1 ≤ C) (high : C ≤ largest_ceiling) (v
     ap (λ (k : ℕ). flipped s (pos k)) (rw v (whole_top (down d) (down_pos d))),
   )
     where
-      whole_top : (k : ℕ) → 0 < k → round_half_up (C * k) k ≡ C
+      whole_top : (k : ℕ) → 0 < k → nearest (C * k) k ≡ C
       whole_top k p =
           div_same (2 * (C * k) + k) (2 * k) (2 * C + 1) 2 (mul-pos (zero-lt-suc 1) p) (zero-lt-suc 1) (omega arith)
           ∙ omega arith
@@ -55,7 +55,7 @@ module _ (C n : ℕ) (d : ℤ) (low : 1 ≤ C) (high : C ≤ largest_ceiling) (v
 
     -- the quantised value, by whether its size reaches the ceiling
     abbrev by-reach : Bool → ℤ
-    by-reach b = flipped s (pos (cond b C (round_half_up (m * up e) (down e))))
+    by-reach b = flipped s (pos (cond b C (nearest (m * up e) (down e))))
 
     less : m * up e * down d < n * up d * down e → m * up e < C * down e
     less h = lt_of_not-le (λ (g : C * down e ≤ m * up e). apart (mul-le-mul_right (down d) g))

@@ -1,28 +1,28 @@
--- A float by the fields of its bits, and the whole number that their digits, shifted, come to.
+-- A float by the fields of its bits, and the float with its last digit set, which is on the same side of every half and
+-- on none.
 use Prim.Native.Nat.{ℕ, zero, suc, ◌+◌, ◌-◌, ◌*◌, ◌/◌, ◌%◌, ◌^◌, ◌≤◌, ◌<◌}
 use mathlib.Core.Path.{◌≡◌, refl, sym, ap, ap₂, ◌∙◌, subst}
-use mathlib.Core.Bool.{Bool, true, false, cond}
+use mathlib.Core.Bool.{Bool, true, false, not, cond}
 use native.Mathlib.Nat.{
-  mul_assoc,
   mul-one,
   mul-le-mul,
   mul-le-mul_right,
+  mul-lt-mul_of_pos_right,
   le-add_right,
   le_of_mul-le-mul_right,
   le_of_suc-le-suc,
-  div-eq_of_lt,
-  div-div-eq-div-mul,
   div-lt_iff_lt-mul,
   lt_of_le_of_lt,
-  lt_of_lt_of_le,
   lt_of_not-le,
   not-le_of_lt,
   mul-pos,
   zero-lt-suc,
+  pow-succ',
 }
 use native.Mathlib.Omega.{arith}
-use lib.Dec.{T, leb, eqb, leb→le, lit<, lit≤}
-use lib.Pow.{pow-add, pow_pos, pow_mono, shl_lt, shl_exact}
+use lib.Dec.{T, leb, eqb, leb→le, lit<}
+use lib.Pow.{pow-add, pow_pos, pow_mono}
+use lib.Bits.{bit_or, or_step, or_zero_r}
 use lib.IntN.{pos}
 use lib.Ieee.{
   Float,
@@ -33,116 +33,91 @@ use lib.Ieee.{
   up,
   down,
   fits,
+  is_nan,
   odd,
+  nan_bits,
   of_fields,
   of_bits,
   to_bits,
+  add,
+  sub,
+  to_signed,
+  in_signed,
 }
 use lib.Ieee.Exact.{HasValue, odd_sign}
-use lib.Ieee.Bits.{of_bits-to_bits}
+use lib.Ieee.Bits.{of_bits-to_bits, nan_bits_is}
 use lib.Ieee.Fits.{down_pos}
 use lib.Ieee.Nearest.{div_same}
+use borrow.Author.Tests.{le-leb, lt-leb, leb-true, leb-false, eqb-true}
 use Rattle.calls.specs.Bounds.{largest_ceiling}
 use Rattle.calls.specs.Signs.{flipped}
-use Rattle.channel.specs.Front.{round_half_up}
-use Rattle.channel.specs.Private.{field_units, is_within, whole_of}
+use Rattle.channel.specs.Front.{nearest}
+use Rattle.channel.specs.Private.{is_within, whole_of}
+use Rattle.channel.specs.FrontLaws.{nearest-is}
+use Rattle.channel.proofs.Additions.{rounding, whole-by-addition}
 
--- ---- the whole number by the field
+-- the size of the binary32 with this exponent field and these digits, in units of 2 ^ -149
+unfoldable field_units : ℕ → ℕ → ℕ
+field_units zero digits = digits
+field_units (suc x) digits = (2 ^ 23 + digits) * 2 ^ x
 
-half-up-same : (a b c d : ℕ) → 0 < b → 0 < d → a * d ≡ c * b → round_half_up a b ≡ round_half_up c d
-half-up-same a b c d p q e =
-    div_same (2 * a + b) (2 * b) (2 * c + d) (2 * d) (mul-pos (zero-lt-suc 1) p) (mul-pos (zero-lt-suc 1) q)
-    (omega arith)
+-- ---- the last digit set, in units of the last digit: a half, 2 * g, is an even number of them
 
--- below a half: d stands for the unit's 2 ^ 149 and h for its half, which are too long for `omega` as numerals
-half-up-below : (n d h : ℕ) → d ≡ 2 * h → n < h → round_half_up n d ≡ 0
-half-up-below n d h e l = div-eq_of_lt (omega arith)
+abbrev with_last_set : ℕ → ℕ
+with_last_set n = n / 2 * 2 + 1
 
-units-below : (field digits : ℕ) → digits < 2 ^ 23 → field < 126 → field_units field digits < 2 ^ 148
-unfolding field_units
-units-below zero digits h l = lt_of_lt_of_le h (lit≤ tt)
-units-below (suc x) digits h l =
-    lt_of_lt_of_le (shl_lt 24 x (omega arith)) (pow_mono {i = 24 + x} {j = 148} (omega arith))
+set_below : (n g : ℕ) → n < 2 * g → with_last_set n < 2 * g
+set_below n g h = omega arith
 
-size_below : (field digits : ℕ) → digits < 2 ^ 23 → field < 126 → 0 ≡ round_half_up (field_units field digits) (2 ^ 149)
-size_below field digits h l =
-    sym (half-up-below (field_units field digits) (2 ^ 149) (2 ^ 148) refl (units-below field digits h l))
+set-above : (n g : ℕ) → 2 * g ≤ n → 2 * g < with_last_set n
+set-above n g h = omega arith
 
--- from there on the size is (2 ^ 23 + digits) / 2 ^ (150 - field)
-units-from : (x digits : ℕ) → x < 12
-    → field_units (suc (125 + x)) digits * 2 ^ (24 - x) ≡ (2 ^ 23 + digits) * 2 ^ 149
-unfolding field_units
-units-from x digits l =
-    mul_assoc (2 ^ 23 + digits) (2 ^ (125 + x)) (2 ^ (24 - x))
-    ∙ ap (λ (n : ℕ). (2 ^ 23 + digits) * n)
-    (sym (pow-add 2 (125 + x) (24 - x)) ∙ ap (λ (n : ℕ). 2 ^ n) exponents)
+-- h halves in units of 2 ^ -149, by units of the last digit
+halves : (h j x k : ℕ) → suc (j + x) ≡ k → h * 2 ^ k ≡ 2 * (h * 2 ^ j) * 2 ^ x
+halves h j x k e =
+    ap (λ (i : ℕ). h * 2 ^ i) (sym e)
+    ∙ rw (pow-succ' 2 (j + x), pow-add 2 j x) (regrouped (2 ^ j) (2 ^ x))
   where
-    exponents : 125 + x + (24 - x) ≡ 149
-    exponents = omega arith
+    regrouped : (a b : ℕ) → h * (2 * (a * b)) ≡ 2 * (h * a) * b
+    regrouped a b = omega arith
 
--- the leading digits of n, shifted so that a whole number has the weight 8,192, with a half added
-leading-half-up : (n p q : ℕ) → 0 < q → p * q ≡ 4096 → (n / 4096 * p + 4096) / 8192 ≡ round_half_up n (8192 * q)
-leading-half-up n p q h e =
-    let a = n / 4096 in
-    let g : a * (p * q) ≡ a * 4096 = ap (λ (k : ℕ). a * k) e in
-    let k : a + q ≡ (2 * n + 8192 * q) / 8192 = omega arith in
-    let w : 8192 * (2 * q) ≡ 2 * (8192 * q) = omega arith in
-    div_same (a * p + 4096) 8192 (a + q) (2 * q) (zero-lt-suc 8191) (mul-pos (zero-lt-suc 1) h) (omega arith)
-    ∙ ap (λ (i : ℕ). i / (2 * q)) k
-    ∙ div-div-eq-div-mul (2 * n + 8192 * q) 8192 (2 * q)
-    ∙ ap (λ (i : ℕ). (2 * n + 8192 * q) / i) w
+record SameSide (u v half : ℕ) : Type 0 where
+  pub below : u < half → v < half
+  pub above : half ≤ u → half < v
 
--- what the code computes of the digits, with a shift in 32 bits
-abbrev pub shifted_size : ℕ → ℕ → ℕ
-shifted_size shift digits = ((2 ^ 23 + digits) / 4096 * 2 ^ shift % 2 ^ 32 + 4096) / 8192
+scaled-side : (n g p : ℕ) → 0 < p → SameSide (n * p) (with_last_set n * p) (2 * g * p)
+scaled-side n g p h =
+    record {
+      below = λ l.
+          mul-lt-mul_of_pos_right (set_below n g (lt_of_not-le (λ k. not-le_of_lt l (mul-le-mul_right p k)))) h;
+      above = λ l. mul-lt-mul_of_pos_right (set-above n g (le_of_mul-le-mul_right l h)) h;
+    }
 
-leading-small : (digits : ℕ) → digits < 2 ^ 23 → (2 ^ 23 + digits) / 4096 < 2 ^ 12
-leading-small digits h = omega arith
-
-pub shift-exact : (shift digits : ℕ) → digits < 2 ^ 23 → shift ≤ 12
-    → (2 ^ 23 + digits) / 4096 * 2 ^ shift % 2 ^ 32 ≡ (2 ^ 23 + digits) / 4096 * 2 ^ shift
-shift-exact shift digits h l = shl_exact 12 shift 32 (leading-small digits h) (omega arith)
-
-pub shift_small : (shift digits : ℕ) → digits < 2 ^ 23 → shift ≤ 12
-    → (2 ^ 23 + digits) / 4096 * 2 ^ shift % 2 ^ 32 < 2 ^ 24
-shift_small shift digits h l =
-    rw (shift-exact shift digits h l)
-    (lt_of_lt_of_le (shl_lt 12 shift (leading-small digits h)) (pow_mono {i = 12 + shift} {j = 24} (omega arith)))
-
-size-from : (x digits : ℕ) → digits < 2 ^ 23 → x < 12
-    → shifted_size (suc x) digits ≡ round_half_up (field_units (suc (125 + x)) digits) (2 ^ 149)
-size-from x digits h l =
-    let n = 2 ^ 23 + digits in
-    let weights : 2 ^ suc x * 2 ^ (11 - x) ≡ 4096 =
-    sym (pow-add 2 (suc x) (11 - x)) ∙ ap (λ (k : ℕ). 2 ^ k) twelve in
-    let half : 8192 * 2 ^ (11 - x) ≡ 2 ^ (24 - x) =
-    sym (pow-add 2 13 (11 - x)) ∙ ap (λ (k : ℕ). 2 ^ k) places in
-    ap (λ (k : ℕ). (k + 4096) / 8192) (shift-exact (suc x) digits h l)
-    ∙ leading-half-up n (2 ^ suc x) (2 ^ (11 - x)) (pow_pos (11 - x)) weights
-    ∙ ap (round_half_up n) half
-    ∙ sym (half-up-same (field_units (suc (125 + x)) digits) (2 ^ 149) n (2 ^ (24 - x)) (pow_pos 149)
-    (pow_pos (24 - x)) (units-from x digits l))
+same-side : (field digits h : ℕ) → field < 138
+    → SameSide (field_units field digits) (field_units field (with_last_set digits)) (h * 2 ^ 148)
+unfolding field_units
+same-side zero digits h l =
+    rw (halves h 147 0 148 refl, mul-one (2 * (h * 2 ^ 147)))
+    (record { below = set_below digits (h * 2 ^ 147); above = set-above digits (h * 2 ^ 147) })
+same-side (suc x) digits h l =
+    let j = 147 - x in
+    rw (halves h j x 148 (omega arith), sym last_set)
+    (scaled-side (2 ^ 23 + digits) (h * 2 ^ j) (2 ^ x) (pow_pos x))
   where
-    twelve : suc x + (11 - x) ≡ 12
-    twelve = omega arith
+    last_set : with_last_set (2 ^ 23 + digits) ≡ 2 ^ 23 + with_last_set digits
+    last_set = omega arith
 
-    places : 13 + (11 - x) ≡ 24 - x
-    places = omega arith
-
-pub size-shifted : (field digits : ℕ) → digits < 2 ^ 23 → 125 < field → field < 138
-    → shifted_size (field - 125) digits ≡ round_half_up (field_units field digits) (2 ^ 149)
-size-shifted field digits h g l =
-    let x = field - 126 in
-    let a : suc (125 + x) ≡ field = omega arith in
-    let b : suc x ≡ field - 125 = omega arith in
-    rw (a, b) at (size-from x digits h (omega arith))
-
-pub size-unshifted : (field digits : ℕ) → digits < 2 ^ 23 → field < 126
-    → shifted_size 0 digits ≡ round_half_up (field_units field digits) (2 ^ 149)
-size-unshifted field digits h l =
-    ap (λ (k : ℕ). (k + 4096) / 8192) (shift-exact 0 digits h (lit≤ tt))
-    ∙ div-eq_of_lt (omega (arith, leading-small digits h))
-    ∙ size_below field digits h l
+-- so that v is less than a half away from the whole number that is nearest to u; k stands for 2 ^ 148, which is too
+-- long for `omega` as a numeral
+in_halves : (u v t k : ℕ) → 0 < k → ((h : ℕ) → SameSide u v (h * k)) → 2 * (2 * k) * t ≤ 2 * u + 2 * k
+    → 2 * u + 2 * k < 2 * (2 * k) * suc t → (2 * (t * (2 * k)) < 2 * v + 2 * k) × (2 * v < 2 * (t * (2 * k)) + 2 * k)
+in_halves u v zero k p side lo hi =
+    let b : v < 1 * k = (side 1).below (omega arith) in
+    (omega arith, omega arith)
+in_halves u v (suc t) k p side lo hi =
+    let a : (2 * t + 1) * k < v = (side (2 * t + 1)).above (omega arith) in
+    let b : v < (2 * t + 3) * k = (side (2 * t + 3)).below (omega arith) in
+    (omega arith, omega arith)
 
 -- ---- the fields
 
@@ -159,6 +134,16 @@ units-above (suc x) digits l =
 small-field : (field digits : ℕ) → field_units field digits ≤ 2047 * 2 ^ 149 → field < 138
 small-field field digits h =
     lt_of_not-le (λ (g : 138 ≤ field). not-le_of_lt (lt_of_le_of_lt h (lit< tt)) (units-above field digits g))
+
+not-all-ones : (field : ℕ) → field < 138 → eqb field 255 ≡ false
+not-all-ones field h = by-test (eqb field 255) refl
+  where
+    no : field ≡ 255 → ⊥
+    no e = omega arith
+
+    by-test : (b : Bool) → eqb field 255 ≡ b → b ≡ false
+    by-test false e = refl
+    by-test true e = absurd (no (eqb-true field 255 e))
 
 fields_value : (s : Bool) (field digits : ℕ) → eqb field 255 ≡ false
     → HasValue (of_fields binary32 s field digits) s (field_units field digits) (2 ^ 149)
@@ -192,7 +177,7 @@ within-is C (fin t m e) s u d h v =
     crossed : m * up e * d ≤ C * down e * d → u * down e ≤ C * d * down e
     crossed k = let g : m * up e * d ≡ u * down e = v.1 in omega arith
 
-whole_is : (x : Float) (s : Bool) (u d : ℕ) → 0 < d → HasValue x s u d → whole_of x ≡ flipped s (pos (round_half_up u d))
+whole_is : (x : Float) (s : Bool) (u d : ℕ) → 0 < d → HasValue x s u d → whole_of x ≡ flipped s (pos (nearest u d))
 unfolding whole_of
 whole_is nan s u d p v = absurd v
 whole_is (inf t) s u d p v = absurd v
@@ -202,14 +187,38 @@ whole_is (fin t m e) s u d p v =
     (div_same (2 * (m * up e) + down e) (2 * down e) (2 * u + d) (2 * d) (mul-pos (zero-lt-suc 1) (down_pos e))
     (mul-pos (zero-lt-suc 1) p) (omega arith))
 
-half-up-bound : (C n d : ℕ) → 0 < d → n ≤ C * d → round_half_up n d ≤ C
-half-up-bound C n d h l =
+value-number : (x : Float) (s : Bool) (u d : ℕ) → HasValue x s u d → T (not (is_nan x))
+unfolding is_nan
+value-number nan s u d v = v
+value-number (inf t) s u d v = tt
+value-number (fin t m e) s u d v = tt
+
+nearest-bound : (C n d : ℕ) → 0 < d → n ≤ C * d → nearest n d ≤ C
+nearest-bound C n d h l =
     le_of_suc-le-suc ((div-lt_iff_lt-mul {k = 2 * d} (mul-pos (zero-lt-suc 1) h)).1 below)
   where
     below : 2 * n + d < suc C * (2 * d)
     below = omega arith
 
 -- ---- from the bits
+
+or-one : (n : ℕ) → bit_or n 1 ≡ with_last_set n
+or-one n = or_step n 1 ∙ rw (or_zero_r (n / 2)) (omega arith)
+
+-- the last digit is in none of the other fields
+set-fields : (n : ℕ) → let m = with_last_set n in
+    (leb 2147483648 m ≡ leb 2147483648 n) × (m % 2147483648 / 8388608 ≡ n % 2147483648 / 8388608)
+    × (m % 8388608 ≡ with_last_set (n % 8388608))
+set-fields n = (by-test (leb 2147483648 n) refl, omega arith, omega arith)
+  where
+    by-test : (b : Bool) → leb 2147483648 n ≡ b → leb 2147483648 (with_last_set n) ≡ b
+    by-test true e = let h = leb-true 2147483648 n e in le-leb 2147483648 (with_last_set n) (omega (arith, h))
+    by-test false e = let h = leb-false 2147483648 n e in lt-leb 2147483648 (with_last_set n) (omega (arith, h))
+
+set_is : (n : ℕ) → of_bits binary32 (with_last_set n)
+    ≡ of_fields binary32 (leb 2147483648 n) (n % 2147483648 / 8388608) (with_last_set (n % 8388608))
+unfolding of_bits
+set_is n = rw ((set-fields n).0, (set-fields n).1, (set-fields n).2)
 
 bits_are : (n : ℕ) → of_bits binary32 n ≡ of_fields binary32 (leb 2147483648 n) (n % 2147483648 / 8388608) (n % 8388608)
 unfolding of_bits
@@ -231,6 +240,13 @@ module _ (x : Float) (k : T (fits binary32 x)) (h : T (is_within largest_ceiling
   abbrev units : ℕ
   units = field_units field digits
 
+  -- with the last digit set
+  abbrev y : Float
+  y = of_bits binary32 (bit_or bits 1)
+
+  abbrev units_set : ℕ
+  units_set = field_units field (with_last_set digits)
+
   x-is : of_fields binary32 sign field digits ≡ x
   x-is = sym (bits_are bits) ∙ of_bits-to_bits binary32 x k
 
@@ -239,13 +255,31 @@ module _ (x : Float) (k : T (fits binary32 x)) (h : T (is_within largest_ceiling
       subst (λ (z : Float). HasValue z sign units (2 ^ 149)) x-is
       (fields_value sign field digits (fields_within sign field digits (rw x-is h)))
 
-  pub field-small : field < 138
+  field-small : field < 138
   field-small = small-field field digits (within-is 2047 x sign units (2 ^ 149) h x-value)
 
-  pub whole-small : round_half_up units (2 ^ 149) ≤ 2047
+  sides : (i : ℕ) → SameSide units units_set (i * 2 ^ 148)
+  sides i = same-side field digits i field-small
+
+  set_value : HasValue y sign units_set (2 ^ 149)
+  set_value =
+      rw (or-one bits, set_is bits)
+      (fields_value sign field (with_last_set digits) (not-all-ones field field-small))
+
+  pub set-number : T (not (nan_bits binary32 (bit_or bits 1)))
+  set-number =
+      rw (nan_bits_is binary32 (bit_or bits 1)) (value-number y sign units_set (2 ^ 149) set_value)
+
+  whole-small : nearest units (2 ^ 149) ≤ 2047
   whole-small =
-      half-up-bound 2047 units (2 ^ 149) (pow_pos 149)
+      nearest-bound 2047 units (2 ^ 149) (pow_pos 149)
       (within-is 2047 x sign units (2 ^ 149) h x-value)
 
-  pub whole-read : whole_of x ≡ flipped sign (pos (round_half_up units (2 ^ 149)))
-  whole-read = whole_is x sign units (2 ^ 149) (pow_pos 149) x-value
+  pub whole-read : let r = sub binary32 (add binary32 y rounding) rounding in
+      T (in_signed binary32 15 r) × (to_signed 15 r ≡ whole_of x)
+  whole-read =
+      let n = nearest-is units (2 ^ 149) (pow_pos 149) in
+      let t = nearest units (2 ^ 149) in
+      let b = in_halves units units_set t (2 ^ 148) (pow_pos 148) sides n.0 n.1 in
+      rw (whole_is x sign units (2 ^ 149) (pow_pos 149) x-value)
+      (whole-by-addition y sign units_set (2 ^ 149) t (pow_pos 149) whole-small set_value b.0 b.1)

@@ -1,4 +1,5 @@
 pub mod Comparisons
+pub mod Additions
 pub mod Cuts
 pub mod Fields
 pub mod Samples

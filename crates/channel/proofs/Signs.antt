@@ -10,7 +10,7 @@ use lib.Ieee.{Float, nan, inf, fin, neg}
 use borrow.Author.Tests.{le-leb}
 use Rattle.calls.specs.LentMemory.{overwrite}
 use Rattle.calls.specs.LentMemoryLaws.{overwrite-same}
-use Rattle.channel.specs.Front.{with_sample_sign, round_half_up, quantised}
+use Rattle.channel.specs.Front.{with_sample_sign, nearest, quantised}
 use Rattle.channel.specs.FrontLaws.{rounded-zero, quantised-odd}
 use Rattle.channel.specs.Private.{by_sign}
 
@@ -36,4 +36,4 @@ filled-by-sign n C samples old size z e =
 
 pub ceiling-kept : (C : ℕ) → quantised C (fin false C (pos 0)) ≡ pos C
 unfolding quantised
-ceiling-kept C = ap (λ (t : Bool). pos (cond t C (round_half_up (C * 1) 1))) (le-leb (C * 1) (C * 1) (le_refl (C * 1)))
+ceiling-kept C = ap (λ (t : Bool). pos (cond t C (nearest (C * 1) 1))) (le-leb (C * 1) (C * 1) (le_refl (C * 1)))

@@ -30,12 +30,12 @@ value_of C Erasing x = with_sample_sign x (fin false C (pos 0))
 -- ---- the whole number of a value
 
 -- the whole number nearest to n / d, halves up: of a size, halves away from zero
-abbrev pub round_half_up : ℕ → ℕ → ℕ
-round_half_up n d = (2 * n + d) / (2 * d)
+abbrev pub nearest : ℕ → ℕ → ℕ
+nearest n d = (2 * n + d) / (2 * d)
 
 -- a size n / d of at least the ceiling becomes the ceiling, any other the nearest whole number
 abbrev pub rounded_size : ℕ → ℕ → ℕ → ℕ
-rounded_size C n d = cond (leb (C * d) n) C (round_half_up n d)
+rounded_size C n d = cond (leb (C * d) n) C (nearest n d)
 
 -- an infinity, the product too large for the format, counts as beyond the ceiling. (No value of an accepted call is a
 -- NaN.)

@@ -1,6 +1,6 @@
 -- Laws of the front's definitions, each for every float and every channel: what a front that refuses nothing has
--- tested; `round_half_up` is the nearest whole number; an LLR is no larger than the ceiling and odd in its sample;
--- samples flipped at some places give the same number and the LLRs flipped at those places.
+-- tested; `nearest` is the nearest whole number; an LLR is no larger than the ceiling and odd in its sample; samples
+-- flipped at some places give the same number and the LLRs flipped at those places.
 use Rattle.std.specs.Prelude.{ℕ, zero, suc, ◌+◌, ◌*◌, ◌/◌, ◌^◌, ◌≤◌, ◌<◌, ◌≡◌, refl, Bool, true, false, not, cond, List, [], ◌∷◌, leb, ltb, eqb, ℤ, pos, negsuc, neg_ℤ, nat_abs, length, get_or, Float}
 use Rattle.std.proofs.Common.{zero-le, sym, ap, ap₂, ◌∙◌, le_refl, mul-pos, zero-lt-suc, not-suc-le-zero, le_of_suc-le-suc, div-lt_iff_lt-mul, le-div_iff_mul-le, add-one, arith, leb-true, leb-false, le-leb}
 use Rattle.std.proofs.Math.Nat.{mul-div-le, lt-mul-div-succ}
@@ -23,7 +23,7 @@ use Rattle.calls.specs.LentMemoryLaws.{length-overwrite, overwrite-same}
 use Rattle.channel.specs.Front.{
   with_sample_sign,
   value_of,
-  round_half_up,
+  nearest,
   rounded_size,
   quantised,
   llr_of,
@@ -63,9 +63,9 @@ tests-passed m C long usable finite e =
 
 -- ---- the whole number of a size
 
--- with N for `round_half_up n d`: N - 1/2 ≤ n / d < N + 1/2, so a half goes up
-pub half-up-is : (n d : ℕ) → 0 < d → (2 * d * round_half_up n d ≤ 2 * n + d) × (2 * n + d < 2 * d * suc (round_half_up n d))
-half-up-is n d h = (
+-- with N for `nearest n d`: N - 1/2 ≤ n / d < N + 1/2, so a half goes up
+pub nearest-is : (n d : ℕ) → 0 < d → (2 * d * nearest n d ≤ 2 * n + d) × (2 * n + d < 2 * d * suc (nearest n d))
+nearest-is n d h = (
   mul-div-le (2 * n + d) (2 * d),
   rw add-one at (lt-mul-div-succ (2 * n + d) {b = 2 * d} (mul-pos (zero-lt-suc 1) h)),
 )
@@ -76,7 +76,7 @@ rounded-bound C n d h = by-test (leb (C * d) n) refl
     below : n < C * d → 2 * n + d < suc C * (2 * d)
     below l = omega arith
 
-    by-test : (b : Bool) → leb (C * d) n ≡ b → cond b C (round_half_up n d) ≤ C
+    by-test : (b : Bool) → leb (C * d) n ≡ b → cond b C (nearest n d) ≤ C
     by-test true e = le_refl C
     by-test false e =
         le_of_suc-le-suc ((div-lt_iff_lt-mul {k = 2 * d} (mul-pos (zero-lt-suc 1) h)).1 (below (leb-false (C * d) n e)))

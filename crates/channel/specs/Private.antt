@@ -1,15 +1,10 @@
 -- Definitions for the contracts of private functions: what the front's own steps compute, in the shape of the code. A
 -- reader of the front's contract needs none of it.
-use Rattle.std.specs.Prelude.{ℕ, zero, suc, ◌+◌, ◌*◌, ◌^◌, Bool, false, cond, leb, ℤ, pos, neg_ℤ, Float}
+use Rattle.std.specs.Prelude.{ℕ, zero, suc, ◌*◌, Bool, false, cond, leb, ℤ, pos, neg_ℤ, Float}
 use Rattle.std.specs.Float.{nan, inf, fin}
 use Rattle.std.specs.Float.Ieee.{up, down}
 use Rattle.calls.specs.Signs.{flipped}
-use Rattle.channel.specs.Front.{round_half_up}
-
--- the size of the binary32 with this exponent field and these digits, in units of 2 ^ -149
-unfoldable pub field_units : ℕ → ℕ → ℕ
-field_units zero digits = digits
-field_units (suc x) digits = (2 ^ 23 + digits) * 2 ^ x
+use Rattle.channel.specs.Front.{nearest}
 
 -- finite, and of a size of at most the whole number C
 unfoldable pub is_within : ℕ → Float → Bool
@@ -21,7 +16,7 @@ is_within C (fin s m e) = leb (m * up e) (C * down e)
 unfoldable pub whole_of : Float → ℤ
 whole_of nan = pos 0
 whole_of (inf s) = pos 0
-whole_of (fin s m e) = flipped s (pos (round_half_up (m * up e) (down e)))
+whole_of (fin s m e) = flipped s (pos (nearest (m * up e) (down e)))
 
 -- a whole number with the sign of a sample, and 0 for a sample of either zero
 unfoldable pub by_sign : Float → ℤ → ℤ

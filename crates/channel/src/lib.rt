@@ -8,8 +8,8 @@ ghost use Rattle.calls.specs.Bounds.{largest_ceiling};
 ghost use Rattle.calls.specs.Numbers.{number_of};
 ghost use Rattle.calls.specs.LentMemory.{overwrite};
 ghost use Rattle.channel.specs.Front.{
-  round_half_up,
   quantised,
+  rounded_size,
   is_finite,
   is_above_zero,
   is_usable,
@@ -18,7 +18,7 @@ ghost use Rattle.channel.specs.Front.{
   front_number,
   front_llrs,
 };
-ghost use Rattle.channel.specs.Private.{field_units, is_within, whole_of, by_sign};
+ghost use Rattle.channel.specs.Private.{is_within, whole_of, by_sign};
 
 use calls::{Answer, LARGEST_CEILING, LARGEST_M, Refusal};
 
@@ -73,29 +73,19 @@ fn all_finite(samples: &[f32], n: usize) -> bool
     all
 }
 
-// The whole number nearest to a size below 2,048, halves up, from the exponent field and the digits of a float. From
-// field 1 on its value is (2^23 + digits) * 2^(field - 150), and only the twelve leading digits count: with them
-// shifted to their place a whole number has the weight 2^13, and a half is added. A field below 126 is a size below a
-// half.
-fn whole_size(field: u32, digits: u32) -> u32
-    requires { (field < 138) × (digits < 2 ^ 23) }
-    ensures { result ≡ round_half_up (field_units field digits) (2 ^ 149) }
-{
-    let shift = if 125 < field { field - 125 } else { 0 };
-    let leading = (0x80_0000 + digits) >> 12;
-    ((leading << shift) + 0x1000) >> 13
-}
+// 1.5 * 2^23: from 2^22 below it to 2^22 above it the floats are the whole numbers, so that a sum with it is rounded to
+// the nearest one.
+const ROUNDING: f32 = 12582912.0;
 
-// The nearest whole number, halves away from zero: sign, exponent and digits are read from the bits, the size is
-// rounded, and the sign given back afterwards. Without a branch, so that a loop over it is vectorised.
+// The nearest whole number, halves away from zero. A sum leaves a half to the even whole number, so the last digit is
+// set first: it takes a half away from zero and, as a half ends in a 0 here, no other value to a half or past one.
+// Without a branch or a shift, so that a loop over it is vectorised.
 fn nearest_whole(value: f32) -> i16
     requires { T (is_within largest_ceiling value) }
     ensures { result ≡ whole_of value }
 {
-    let bits = f32::to_bits(value);
-    let size = whole_size((bits & 0x7fff_ffff) >> 23, bits & 0x7f_ffff) as i32;
-    let whole = if bits < 0x8000_0000 { size } else { -size };
-    whole as i16
+    let off_half = f32::from_bits(f32::to_bits(value) | 1);
+    ((off_half + ROUNDING) - ROUNDING) as i16
 }
 
 // The exact value, cut to the ceiling on either side by a packed minimum and a packed maximum, and its whole number.

@@ -31,7 +31,7 @@ least_size n operand soft = every n (λ i. leb operand (nat_abs (soft i)))
 
 -- 3, steady: the marks at information positions equalled those of the iteration before
 abbrev pub same_marks : ℕ → List ℕ → (ℕ → ℕ) → (ℕ → ℕ) → Bool
-same_marks n mask before after = every_information n mask (λ i. eqb (before i) (after i))
+same_marks n mask before now = every_information n mask (λ i. eqb (before i) (now i))
 
 -- .. at each of the last W iterations; not before iteration W + 1
 abbrev pub steady : ℕ → (ℕ → Bool) → ℕ → Bool

@@ -117,10 +117,10 @@ fn least_information_size(operand: u16, mask: &[u8], soft: &[i16], n: usize) -> 
 }
 
 // Whether a position allows criterion 3: it is frozen, or its mark is that of the iteration before.
-fn keeps_mark(kind: u8, before: u8, after: u8) -> bool
-    ensures { result ≡ by_kind kind (eqb before after) (λ bit. true) }
+fn keeps_mark(kind: u8, before: u8, now: u8) -> bool
+    ensures { result ≡ by_kind kind (eqb before now) (λ bit. true) }
 {
-    !polar::is_information(kind) || before == after
+    !polar::is_information(kind) || before == now
 }
 
 // Whether the marks of the first n soft values are those of the iteration before, at the information positions.

@@ -54,9 +54,8 @@ pub record OneIteration (s : Settings) (memory : Memory) (mask : List ℕ) (befo
       ≡ holds_now s.m (criterion_of s) mask r.memory (soft_at s mask after.work) (mark_at s mask after.work)
       (coded_mark_at s after.work)
 
--- a run that goes on: t iterations of w have given the workspace `work`, and the criterion held after none of them
-pub record RunGoesOn (s : Settings) (mask : List ℕ) (w : List ℤ) (t : ℕ) (memory : Memory) (work : List ℤ)
-    : Type 0 where
-  pub work-is : work ≡ work_after s mask w t
+-- a run that goes on: t iterations of w have given the workspace `now`, and the criterion held after none of them
+pub record RunGoesOn (s : Settings) (mask : List ℕ) (w : List ℤ) (t : ℕ) (memory : Memory) (now : List ℤ) : Type 0 where
+  pub work-is : now ≡ work_after s mask w t
   pub memory-is : memory ≡ remembered_after s mask w t
   pub none : (j : ℕ) → 1 ≤ j → j ≤ t → holds_after s mask w j ≡ false

@@ -45,9 +45,9 @@ run-begins s mask w = record {
 
 -- ---- t iterations
 
-module _ {s : Settings} {mask : List ℕ} {w : List ℤ} {t : ℕ} {memory : Memory} {work : List ℤ}
-    (h : RunGoesOn s mask w t memory work) where
-  pub run-valid : WorkspaceValid (rule_of s) s.m w → WorkspaceValid (rule_of s) s.m work
+module _ {s : Settings} {mask : List ℕ} {w : List ℤ} {t : ℕ} {memory : Memory} {now : List ℤ}
+    (h : RunGoesOn s mask w t memory now) where
+  pub run-valid : WorkspaceValid (rule_of s) s.m w → WorkspaceValid (rule_of s) s.m now
   run-valid valid = rw h.work-is (valid-iterations valid t)
 
   pub run-memory : t < most_remembered → MemoryInRange memory

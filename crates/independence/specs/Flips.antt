@@ -98,11 +98,12 @@ module _ (m : ℕ) (u : ℕ → Bool) (s : ℕ) (g g' : ℕ → ℤ) (hs : s ≤
 -- ---- the start
 
 -- what the two runs are handed: u is 0 at the frozen positions, and the second LLRs are the first, flipped by the block
--- sent. The workspace has room
-pub record Runs (m : ℕ) (mask : List ℕ) (u : ℕ → Bool) (llr llr' old : List ℤ) : Type 0 where
+-- sent. The workspaces have room; what they held before may differ
+pub record Runs (m : ℕ) (mask : List ℕ) (u : ℕ → Bool) (llr llr' old old' : List ℤ) : Type 0 where
   pub frozen : (i : ℕ) → i < 2 ^ m → is_information (get_or mask i 0) ≡ false → u i ≡ false
   pub sent : (i : ℕ) → i < 2 ^ m → get_or llr' i (pos 0) ≡ flipped (coded m u i) (get_or llr i (pos 0))
   pub room : WorkspaceFits m old
+  pub room' : WorkspaceFits m old'
 
 prior-flips : (C : ℕ) (mask : List ℕ) (i : ℕ) (b : Bool) → (is_information (get_or mask i 0) ≡ false → b ≡ false)
     → prior C mask i ≡ flipped b (prior C mask i)
@@ -117,26 +118,27 @@ row-cleared m k i old room hk hi =
     let within : k * 2 ^ m + i < workspace_length m = row_lt m k i hk hi in
     overwrite-at (workspace_length m) (λ j. pos 0) old (k * 2 ^ m + i) (pos 0) within (omega arith)
 
-cleared-flips : (m : ℕ) (u : ℕ → Bool) (old : List ℤ) → WorkspaceFits m old
-    → Flipped m u (cleared m old) (cleared m old)
-cleared-flips m u old room =
+cleared-flips : (m : ℕ) (u : ℕ → Bool) (old old' : List ℤ) → WorkspaceFits m old → WorkspaceFits m old'
+    → Flipped m u (cleared m old) (cleared m old')
+cleared-flips m u old old' room room' =
     let each : (k i : ℕ) (b : Bool) → k < 2 * (m + 1) → i < 2 ^ m
-    → row m (cleared m old) k i ≡ flipped b (row m (cleared m old) k i)
-    = λ k i b hk hi. rw (row-cleared m k i old room hk hi) (sym (flipped-zero b)) in
+    → row m (cleared m old') k i ≡ flipped b (row m (cleared m old) k i)
+    = λ k i b hk hi. rw (row-cleared m k i old' room' hk hi, row-cleared m k i old room hk hi) (sym (flipped-zero b)) in
     record {
       room = rw length-overwrite room;
-      room' = rw length-overwrite room;
+      room' = rw length-overwrite room';
       left = λ s i hs hi. each s i (column m u s i) (omega arith) hi;
       right = λ s i hs hi. each (m + 1 + s) i (column m u s i) (omega arith) hi;
     }
 
-pub start-flips : (m C : ℕ) (mask : List ℕ) (u : ℕ → Bool) {llr llr' old : List ℤ} → Runs m mask u llr llr' old
-    → Flipped m u (start m C mask llr old) (start m C mask llr' old)
+pub start-flips : (m C : ℕ) (mask : List ℕ) (u : ℕ → Bool) {llr llr' old old' : List ℤ}
+    → Runs m mask u llr llr' old old'
+    → Flipped m u (start m C mask llr old) (start m C mask llr' old')
 unfolding start
-start-flips m C mask u {llr} {llr'} {old} runs =
+start-flips m C mask u {llr} {llr'} {old} {old'} runs =
     set_l-flips m u m _ _ (le_refl m) (λ i hi. rw (column-coded m i u hi) (runs.sent i hi))
     (set_r-flips m u 0 _ _ (omega arith) (λ i hi. prior-flips C mask i (u i) (runs.frozen i hi))
-    (cleared-flips m u old runs.room))
+    (cleared-flips m u old old' runs.room runs.room'))
 
 -- ---- the steps
 
@@ -231,20 +233,20 @@ module _ (rule : MinSum) (m : ℕ) (u : ℕ → Bool) where
 
 -- ---- the decoder's workspace and its soft outputs, after any number of iterations
 
-module _ (s : Settings) (mask : List ℕ) (u : ℕ → Bool) {llr llr' old : List ℤ}
-    (runs : Runs s.m mask u llr llr' old) (t : ℕ) where
-  pub after-flips : Flipped s.m u (after s mask llr old t) (after s mask llr' old t)
+module _ (s : Settings) (mask : List ℕ) (u : ℕ → Bool) {llr llr' old old' : List ℤ}
+    (runs : Runs s.m mask u llr llr' old old') (t : ℕ) where
+  pub after-flips : Flipped s.m u (after s mask llr old t) (after s mask llr' old' t)
   unfolding after
   after-flips = iterations-flips (rule_of s) s.m u t (start-flips s.m s.ceiling mask u runs)
 
   pub soft-flips : (i : ℕ) → i < 2 ^ s.m
-      → soft_at s mask (after s mask llr' old t) i ≡ flipped (u i) (soft_at s mask (after s mask llr old t) i)
+      → soft_at s mask (after s mask llr' old' t) i ≡ flipped (u i) (soft_at s mask (after s mask llr old t) i)
   soft-flips i hi =
       rw (after-flips.left 0 i zero-le hi, after-flips.right 0 i zero-le hi)
       (soft-flipped (rule_of s) (get_or mask i 0) (u i) _ _ (runs.frozen i hi))
 
   pub coded_soft-flips : (i : ℕ) → i < 2 ^ s.m
-      → coded_soft_at s (after s mask llr' old t) i
+      → coded_soft_at s (after s mask llr' old' t) i
       ≡ flipped (coded s.m u i) (coded_soft_at s (after s mask llr old t) i)
   coded_soft-flips i hi =
       rw (

@@ -27,9 +27,9 @@ verdict-flipped true (suc zero) = refl
 verdict-flipped true (suc (suc zero)) = refl
 verdict-flipped true (suc (suc (suc n))) = refl
 
-module _ (s : Settings) (mask : List ℕ) (u : ℕ → Bool) {llr llr' old : List ℤ}
-    (runs : Runs s.m mask u llr llr' old) where
-  pub ending-same : ending s mask llr' old ≡ ending s mask llr old
+module _ (s : Settings) (mask : List ℕ) (u : ℕ → Bool) {llr llr' old old' : List ℤ}
+    (runs : Runs s.m mask u llr llr' old old') where
+  pub ending-same : ending s mask llr' old' ≡ ending s mask llr old
   unfolding ending after
   ending-same =
       ap (λ (held : ℕ → Bool). ending_of held s.limit)
@@ -38,9 +38,9 @@ module _ (s : Settings) (mask : List ℕ) (u : ℕ → Bool) {llr llr' old : Lis
 
   -- the soft outputs as they stand at the end
   pub final-soft : (i : ℕ) → i < 2 ^ s.m
-      → soft_at s mask (final s mask llr' old) i ≡ flipped (u i) (soft_at s mask (final s mask llr old) i)
+      → soft_at s mask (final s mask llr' old') i ≡ flipped (u i) (soft_at s mask (final s mask llr old) i)
   final-soft i l = rw ending-same (soft-flips s mask u runs (ending s mask llr old).iteration i l)
 
   pub final-coded_soft : (i : ℕ) → i < 2 ^ s.m
-      → coded_soft_at s (final s mask llr' old) i ≡ flipped (coded s.m u i) (coded_soft_at s (final s mask llr old) i)
+      → coded_soft_at s (final s mask llr' old') i ≡ flipped (coded s.m u i) (coded_soft_at s (final s mask llr old) i)
   final-coded_soft i l = rw ending-same (coded_soft-flips s mask u runs (ending s mask llr old).iteration i l)

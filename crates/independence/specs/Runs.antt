@@ -4,7 +4,7 @@ use Rattle.std.specs.Prelude.{ℕ, ◌^◌, ◌<◌, ◌≡◌, Bool, false, Lis
 use Rattle.std.proofs.Common.{sym, ap, ◌∙◌}
 use Rattle.calls.specs.Bits.{byte_of, bit_of}
 use Rattle.calls.specs.BitLaws.{bit-of-byte}
-use Rattle.calls.specs.LentMemoryLaws.{new-at, same-written-at}
+use Rattle.calls.specs.LentMemoryLaws.{new-at}
 use Rattle.calls.specs.Signs.{flipped}
 use Rattle.polar.specs.declared.Code.{Code}
 use Rattle.polar.specs.Code.{u_bit, information_count, coded, encode_number, encode_block}
@@ -17,8 +17,6 @@ use Rattle.settings.specs.Settings.{decode_number}
 use Rattle.settings.specs.SettingsLaws.{accepted, number-flipped}
 use Rattle.settings.specs.Slices.{Slices, lengths_of}
 use Rattle.decoder.specs.Decoder.{ending, call_number, decode_result, decode_slices}
-use Rattle.decoder.specs.SameDecoding.{SameSlices, SameDecoding}
-use Rattle.decoder.specs.SameDecodingLaws.{old-contents-unread, same-slices-accepted}
 use Rattle.decoder.specs.ResultLaws.{result-same, soft-written, mark-written, coded_soft-written, coded_mark-written}
 use Rattle.independence.specs.Verdict.{flipped_mark}
 use Rattle.independence.specs.Flips.{Runs}
@@ -54,61 +52,52 @@ pub record Calls (s : Settings) (mask : List ℕ) (u sent : ℕ → Bool) (llr l
 
 module _ {s : Settings} {mask : List ℕ} {u sent : ℕ → Bool} {llr llr' : List ℤ} {lent lent' : Slices}
     (c : Calls s mask u sent llr llr' lent lent') where
-  -- what the second call's slices held makes no difference, so that both calls can be taken to be lent the first one's
-  unread : SameDecoding s s mask llr' lent' lent
-  unread = old-contents-unread s mask llr' lent' lent c.lengths
+  number_same : call_number s mask llr' lent' ≡ call_number s mask llr lent
+  number_same =
+      ap (decode_number s mask llr') c.lengths
+      ∙ number-flipped s mask llr llr' (lengths_of lent) sent c.long c.flips
 
-  number_same : call_number s mask llr' lent ≡ call_number s mask llr lent
-  number_same = number-flipped s mask llr llr' (lengths_of lent) sent c.long c.flips
+  passed : call_number s mask llr lent ≡ 0 → call_number s mask llr' lent' ≡ 0
+  passed ok = number_same ∙ ok
 
-  runs : call_number s mask llr lent ≡ 0 → Runs s.m mask u llr llr' lent.work
+  runs : call_number s mask llr lent ≡ 0 → Runs s.m mask u llr llr' lent.work lent'.work
   runs ok = record {
     frozen = λ i h. c.frozen i;
     sent = λ i h. c.flips i h ∙ ap (λ (b : Bool). flipped b (get_or llr i (pos 0))) (c.block i h);
     room = (accepted s mask llr (lengths_of lent) ok).slices.work-long;
+    room' = (accepted s mask llr' (lengths_of lent') (passed ok)).slices.work-long;
   }
 
   pub answer-same : decode_result s mask llr' lent' ≡ decode_result s mask llr lent
   answer-same =
-      unread.answer
-      ∙ result-same (call_number s mask llr lent) (call_number s mask llr' lent) (ending s mask llr lent.work)
-      (ending s mask llr' lent.work)
+      result-same (call_number s mask llr lent) (call_number s mask llr' lent') (ending s mask llr lent.work)
+      (ending s mask llr' lent'.work)
       number_same (λ ok. ending-same s mask u (runs ok))
 
   -- what both leave, where both accept
   module _ (ok : call_number s mask llr lent ≡ 0) (i : ℕ) (h : i < 2 ^ s.m) where
-    ok' : call_number s mask llr' lent ≡ 0
-    ok' = number_same ∙ ok
-
-    slices : SameSlices 0 s.m lent' lent (decode_slices s mask llr' lent') (decode_slices s mask llr' lent)
-    slices = same-slices-accepted (ap (decode_number s mask llr') c.lengths ∙ ok') unread.slices
-
     pub soft-same : get_or (decode_slices s mask llr' lent').soft i (pos 0)
         ≡ flipped (u i) (get_or (decode_slices s mask llr lent).soft i (pos 0))
     soft-same =
-        same-written-at slices.soft i (pos 0) h
-        ∙ soft-written s mask llr' lent ok' i h ∙ final-soft s mask u (runs ok) i h
+        soft-written s mask llr' lent' (passed ok) i h ∙ final-soft s mask u (runs ok) i h
         ∙ ap (flipped (u i)) (sym (soft-written s mask llr lent ok i h))
 
     pub coded_soft-same : get_or (decode_slices s mask llr' lent').coded_soft i (pos 0)
         ≡ flipped (coded s.m u i) (get_or (decode_slices s mask llr lent).coded_soft i (pos 0))
     coded_soft-same =
-        same-written-at slices.coded_soft i (pos 0) h
-        ∙ coded_soft-written s mask llr' lent ok' i h ∙ final-coded_soft s mask u (runs ok) i h
+        coded_soft-written s mask llr' lent' (passed ok) i h ∙ final-coded_soft s mask u (runs ok) i h
         ∙ ap (flipped (coded s.m u i)) (sym (coded_soft-written s mask llr lent ok i h))
 
     pub mark-same : get_or (decode_slices s mask llr' lent').mark i 0
         ≡ flipped_mark (u i) (get_or (decode_slices s mask llr lent).mark i 0)
     mark-same =
-        same-written-at slices.mark i 0 h
-        ∙ mark-written s mask llr' lent ok' i h ∙ ap mark_of (final-soft s mask u (runs ok) i h)
+        mark-written s mask llr' lent' (passed ok) i h ∙ ap mark_of (final-soft s mask u (runs ok) i h)
         ∙ mark-flipped (u i) _
         ∙ ap (flipped_mark (u i)) (sym (mark-written s mask llr lent ok i h))
 
     pub coded_mark-same : get_or (decode_slices s mask llr' lent').coded_mark i 0
         ≡ flipped_mark (coded s.m u i) (get_or (decode_slices s mask llr lent).coded_mark i 0)
     coded_mark-same =
-        same-written-at slices.coded_mark i 0 h
-        ∙ coded_mark-written s mask llr' lent ok' i h ∙ ap mark_of (final-coded_soft s mask u (runs ok) i h)
+        coded_mark-written s mask llr' lent' (passed ok) i h ∙ ap mark_of (final-coded_soft s mask u (runs ok) i h)
         ∙ mark-flipped (coded s.m u i) _
         ∙ ap (flipped_mark (coded s.m u i)) (sym (coded_mark-written s mask llr lent ok i h))

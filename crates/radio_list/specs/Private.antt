@@ -9,17 +9,17 @@ use Rattle.radio_list.specs.declared.Checked as declared
 use Rattle.radio_list.specs.declared.Checked.TheVariants.{Passed, Failed}
 use Rattle.radio_list.specs.RadioList.{Entry, Checked, passed, failed}
 
-abbrev pub entry_of : ℕ → Tally → Entry
-entry_of radio tally = record { radio = radio; tally = tally }
+abbrev pub entry : ℕ → Tally → Entry
+entry radio tally = record { radio = radio; tally = tally }
 
 -- ---- what was read, and the text behind it
 
 abbrev pub line_read : List ℕ → Line → Reading Entry
-line_read t (Found radio tally next) = found (entry_of radio tally) (drop next t)
+line_read t (Found radio tally next) = found (entry radio tally) (drop next t)
 line_read t Malformed = malformed
 
 abbrev pub checked_read : List ℕ → declared.Checked → Checked
-checked_read t (Passed radio tally next) = passed (entry_of radio tally) (drop next t)
+checked_read t (Passed radio tally next) = passed (entry radio tally) (drop next t)
 checked_read t (Failed r) = failed (refusal_number r)
 
 -- ---- a position is that of a byte of the text, or of its end

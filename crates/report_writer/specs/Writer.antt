@@ -45,8 +45,8 @@ pub data WriteAnswer : Type 0 where
   rejected : ℕ → WriteAnswer
 
 abbrev pub write_answer_by : ℕ → ℕ → WriteAnswer
-write_answer_by zero bytes = wrote bytes
-write_answer_by (suc number) bytes = rejected (suc number)
+write_answer_by zero length = wrote length
+write_answer_by (suc number) length = rejected (suc number)
 
 -- the length of the text, or the number
 abbrev pub write_answer : Settings → Block → List ℕ → WriteAnswer

@@ -3,7 +3,6 @@ use Rattle.std.specs.Prelude.{ℕ, ◌≡◌, refl, List, [], ◌∷◌, map, �
 use Rattle.settings.specs.declared.Settings.{Settings}
 use Rattle.settings.specs.declared.Lengths.{Lengths}
 use Rattle.settings.specs.Settings.{settings_number, decode_number}
-use Rattle.settings.specs.Limits.{old_decode_number}
 
 -- m, C, k, T, criterion, operand
 abbrev set : ℕ → ℕ → ℕ → ℕ → ℕ → ℕ → Settings
@@ -57,11 +56,6 @@ scale = refl
 -- 4
 pub limit : map (λ T. of-settings (set 1 31 16 T 1 0)) (0 ∷ 1 ∷ 64 ∷ 65 ∷ 200 ∷ []) ≡ 4 ∷ 0 ∷ 0 ∷ 4 ∷ 4 ∷ []
 limit = refl
-
--- before 2026-07
-pub old-limit : map (λ T. old_decode_number (set 1 31 16 T 1 0) mask llr exact) (0 ∷ 1 ∷ 64 ∷ 65 ∷ 200 ∷ 201 ∷ [])
-    ≡ 4 ∷ 0 ∷ 0 ∷ 0 ∷ 0 ∷ 4 ∷ []
-old-limit = refl
 
 -- 5, with an operand that fits criterion 4
 pub criterion : map (λ c. of-operand c 1) (4 ∷ 5 ∷ []) ≡ 0 ∷ 5 ∷ []

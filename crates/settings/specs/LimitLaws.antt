@@ -1,27 +1,15 @@
 -- Request 2026-07: the limits T that a call may have. The request's numbers stand here written out.
-use Rattle.std.specs.Prelude.{ℕ, zero, suc, ◌+◌, ◌^◌, ◌≤◌, ◌≡◌, refl, Bool, true, false, cond, List, eqb, ℤ, get_or}
-use Rattle.std.proofs.Common.{ap₂, arith, le-leb, ne_eqb}
+use Rattle.std.specs.Prelude.{ℕ, zero, suc, ◌≤◌, ◌≡◌, refl, Bool, true, false, cond, List, ℤ}
+use Rattle.std.proofs.Common.{sym, ap, ◌∙◌, arith, le-leb}
 use Rattle.calls.specs.Bounds.{largest_m, largest_ceiling, largest_scale}
 use Rattle.calls.specs.Numbers.{check, first_refusal, between}
-use Rattle.polar.specs.Mask.{by_kind}
-use Rattle.polar.specs.Code.{information_count}
 use Rattle.settings.specs.declared.Settings.{Settings}
 use Rattle.settings.specs.declared.Lengths.{Lengths}
 use Rattle.settings.specs.Settings.{decode_number}
-use Rattle.settings.specs.Limits.{with_limit, old_information_count, old_decode_number}
+use Rattle.settings.specs.Limits.{with_limit, old_decode_number}
 
--- up to 64 the bounds of 64 and 200 are one test
-same_test : (T : ℕ) → T ≤ 64 → between 1 64 T ≡ between 1 200 T
-same_test zero h = refl
-same_test (suc T) h = simp (le-leb (suc T) 64 (omega arith), le-leb (suc T) 200 (omega arith))
-
-same_count : (mask : List ℕ) (n : ℕ) → information_count mask n ≡ old_information_count mask n
-same_count mask zero = refl
-same_count mask (suc n) = ap₂ (λ (a b : ℕ). a + b) (same_count mask n) (by_byte (get_or mask n 0))
-  where
-    by_byte : (byte : ℕ) → ◌≡◌ {A = ℕ} (by_kind byte 1 (λ bit. 0)) (cond (eqb byte 0) 1 0)
-    by_byte zero = refl
-    by_byte (suc byte) = rw (ne_eqb (suc byte) 0 (λ e. omega arith))
+positive-within : (high n : ℕ) → suc n ≤ high → between 1 high (suc n) ≡ true
+positive-within high n h = simp (le-leb 1 (suc n) (omega arith), le-leb (suc n) high h)
 
 module _ (s : Settings) (mask : List ℕ) (llr : List ℤ) (lengths : Lengths) where
   -- "The limit T now runs 1 to 64": to every test of a call these limits are alike
@@ -45,6 +33,14 @@ module _ (s : Settings) (mask : List ℕ) (llr : List ℤ) (lengths : Lengths) w
       by_tests true false c next = refl
       by_tests false b c next = refl
 
-  -- a call with a limit up to 64 has the number that it had: only the test of T has moved
+  -- a call with a limit up to 64 has the number that it had
   pub limit-as-before : s.limit ≤ 64 → decode_number s mask llr lengths ≡ old_decode_number s mask llr lengths
-  limit-as-before h = rw (same_test s.limit h, same_count mask (2 ^ s.m))
+  limit-as-before h = by-limit s.limit h
+    where
+      by-limit : (T : ℕ) → T ≤ 64
+          → decode_number (with_limit T s) mask llr lengths ≡ old_decode_number (with_limit T s) mask llr lengths
+      by-limit zero h = refl
+      by-limit (suc T) h =
+          limit-within (suc T) 1 (positive-within 64 T h) refl
+          ∙ sym (ap (λ (test : Bool). decode_number (with_limit (cond test 1 0) s) mask llr lengths)
+          (positive-within 200 T (omega arith)))

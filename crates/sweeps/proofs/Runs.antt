@@ -61,7 +61,7 @@ module _ {rule : MinSum} {m t k x y n : ℕ} {old w : List ℤ} (en : n ≡ 2 ^ 
       (λ j l b. omega arith)
       (rw en at e)
 
-  -- where the code has the distance as a constant
+  -- where the code has the distance as a literal
   pub chunk_next : (d : ℕ) → d ≡ 2 ^ t → Multiple (2 ^ suc t) p → {v : List ℤ}
       → v ≡ new_run rule d (k * n + p) (x * n + p) (y * n + p) c w → Filled rule m t k x y (λ j. j < p + c) old v
   unfolding new_run

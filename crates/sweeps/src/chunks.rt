@@ -1,7 +1,7 @@
 // A step over the distance 2 or 4, sixteen positions at a time, for blocks of sixteen positions and more. The upper
 // positions are gathered in one register and the lower ones in another, and the new messages are merged again. The
-// distance d is a shift of literals, so that the compiler knows it and shuffles registers. A position i is upper where
-// i & d == 0. Pair i has its upper position at i + (i & (8 - d)): the digits of i from that of weight d on count twice.
+// distance d is a literal, so that the compiler shuffles registers. Pair i has its upper position at i + (i & mask),
+// where the mask is 8 - d: the digits of i from that of weight d on count twice.
 ghost use Rattle.std.specs.Prelude.{◌≡◌, ◌+◌, ◌≤◌, ◌<◌, length};
 ghost use Rattle.calls.specs.LentMemory.{overwrite_from};
 ghost use Rattle.message.specs.Message.{add, f};
@@ -19,20 +19,6 @@ ghost use Rattle.sweeps.specs.IterationLaws.{WorkspaceValid};
 
 use crate::{arrays, messages};
 use message::MinSum;
-
-// The distances, by a shift each, and the masks that follow: of the digits of weight d and more of a pair's number, and
-// of those below.
-const D_2: usize = 1 << 1;
-
-const HIGH_2: usize = 8 - D_2;
-
-const LOW_2: usize = D_2 - 1;
-
-const D_4: usize = 1 << 2;
-
-const HIGH_4: usize = 8 - D_4;
-
-const LOW_4: usize = D_4 - 1;
 
 // The new messages of pair i: of its upper position, and of its lower one.
 fn upper_of(rule: MinSum, own: &[i16; 8], x: &[i16; 8], y: &[i16; 8], i: usize) -> i16
@@ -61,8 +47,8 @@ fn put_merged_2(upper: &[i16; 8], lower: &[i16; 8], at: usize, work: &mut [i16])
 {
     let mut i = 0;
     while i < 16 {
-        let pair = (i & LOW_2) + (i >> 1 & HIGH_2);
-        work[at + i] = messages::pick(i & D_2 == 0, upper[pair], lower[pair]);
+        let pair = (i & 1) + (i >> 1 & 6);
+        work[at + i] = messages::pick(i & 2 == 0, upper[pair], lower[pair]);
         i += 1;
     }
 }
@@ -73,10 +59,10 @@ fn chunk_2(rule: MinSum, to: usize, x: usize, y: usize, work: &mut [i16])
     requires to_in_bounds { to + 16 ≤ length work.old }
     ensures { work.new ≡ new_run rule 2 to x y 16 work.old }
 {
-    let x_upper = arrays::gather(work, x, HIGH_2);
-    let x_lower = arrays::gather(work, x + D_2, HIGH_2);
-    let y_upper = arrays::gather(work, y, HIGH_2);
-    let y_lower = arrays::gather(work, y + D_2, HIGH_2);
+    let x_upper = arrays::gather(work, x, 6);
+    let x_lower = arrays::gather(work, x + 2, 6);
+    let y_upper = arrays::gather(work, y, 6);
+    let y_lower = arrays::gather(work, y + 2, 6);
     let mut upper = [0i16; 8];
     let mut lower = [0i16; 8];
     let mut i = 0;
@@ -96,8 +82,8 @@ fn put_merged_4(upper: &[i16; 8], lower: &[i16; 8], at: usize, work: &mut [i16])
 {
     let mut i = 0;
     while i < 16 {
-        let pair = (i & LOW_4) + (i >> 1 & HIGH_4);
-        work[at + i] = messages::pick(i & D_4 == 0, upper[pair], lower[pair]);
+        let pair = (i & 3) + (i >> 1 & 4);
+        work[at + i] = messages::pick(i & 4 == 0, upper[pair], lower[pair]);
         i += 1;
     }
 }
@@ -108,10 +94,10 @@ fn chunk_4(rule: MinSum, to: usize, x: usize, y: usize, work: &mut [i16])
     requires to_in_bounds { to + 16 ≤ length work.old }
     ensures { work.new ≡ new_run rule 4 to x y 16 work.old }
 {
-    let x_upper = arrays::gather(work, x, HIGH_4);
-    let x_lower = arrays::gather(work, x + D_4, HIGH_4);
-    let y_upper = arrays::gather(work, y, HIGH_4);
-    let y_lower = arrays::gather(work, y + D_4, HIGH_4);
+    let x_upper = arrays::gather(work, x, 4);
+    let x_lower = arrays::gather(work, x + 4, 4);
+    let y_upper = arrays::gather(work, y, 4);
+    let y_lower = arrays::gather(work, y + 4, 4);
     let mut upper = [0i16; 8];
     let mut lower = [0i16; 8];
     let mut i = 0;

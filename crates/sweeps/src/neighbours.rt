@@ -8,9 +8,6 @@ ghost use Rattle.sweeps.specs.IterationLaws.{WorkspaceValid};
 use crate::{arrays, messages};
 use message::MinSum;
 
-// The distance, by a shift.
-const D: usize = 1 << 0;
-
 // The new messages of the eight positions from the places x and y on.
 fn eight_beside(rule: MinSum, masks: &[i16; 8], work: &[i16], x: usize, y: usize) -> [i16; 8]
     requires rule_in_range { RuleInRange rule }
@@ -21,7 +18,7 @@ fn eight_beside(rule: MinSum, masks: &[i16; 8], work: &[i16], x: usize, y: usize
     let mut values = [0i16; 8];
     let mut i = 0;
     while i < 8 {
-        values[i] = messages::new_message(rule, masks[i] == 0, work, i, D, x, y);
+        values[i] = messages::new_message(rule, masks[i] == 0, work, i, 1, x, y);
         i += 1;
     }
     values
@@ -34,7 +31,7 @@ pub fn by_neighbours(rule: MinSum, m: u32, k: usize, x: usize, y: usize, work: &
     ensures { work.new ≡ row_step rule m 0 k x y work.old }
 {
     let n = polar::power_of_two(m);
-    let masks = arrays::mask_table(D);
+    let masks = arrays::mask_table(1);
     let mut p = 0;
     while p < n {
         let values = eight_beside(rule, &masks, work, x * n + p, y * n + p);

@@ -1,5 +1,5 @@
 // A step of a block of eight positions: one register holds a whole row, and a position finds its partner inside it.
-// The distance is a shift of literals, so that the compiler knows it and shuffles the register: a function for each.
+// The distance is a literal, so that the compiler shuffles the register: a function for each.
 ghost use Rattle.std.specs.Prelude.{◌≡◌};
 ghost use Rattle.message.specs.MessageLaws.{RuleInRange};
 ghost use Rattle.sweeps.specs.Private.{MaskTable, NewEight, ReadableRun, Rows, row_step};
@@ -7,13 +7,6 @@ ghost use Rattle.sweeps.specs.IterationLaws.{WorkspaceValid};
 
 use crate::{arrays, messages};
 use message::MinSum;
-
-// The distances, by a shift each.
-const D_1: usize = 1 << 0;
-
-const D_2: usize = 1 << 1;
-
-const D_4: usize = 1 << 2;
 
 fn octet_1(rule: MinSum, masks: &[i16; 8], work: &[i16], x: usize, y: usize) -> [i16; 8]
     requires rule_in_range { RuleInRange rule }
@@ -24,7 +17,7 @@ fn octet_1(rule: MinSum, masks: &[i16; 8], work: &[i16], x: usize, y: usize) -> 
     let mut values = [0i16; 8];
     let mut i = 0;
     while i < 8 {
-        values[i] = messages::partnered(rule, masks[i] == 0, work, i, i ^ D_1, x, y);
+        values[i] = messages::partnered(rule, masks[i] == 0, work, i, i ^ 1, x, y);
         i += 1;
     }
     values
@@ -39,7 +32,7 @@ fn octet_2(rule: MinSum, masks: &[i16; 8], work: &[i16], x: usize, y: usize) -> 
     let mut values = [0i16; 8];
     let mut i = 0;
     while i < 8 {
-        values[i] = messages::partnered(rule, masks[i] == 0, work, i, i ^ D_2, x, y);
+        values[i] = messages::partnered(rule, masks[i] == 0, work, i, i ^ 2, x, y);
         i += 1;
     }
     values
@@ -54,7 +47,7 @@ fn octet_4(rule: MinSum, masks: &[i16; 8], work: &[i16], x: usize, y: usize) -> 
     let mut values = [0i16; 8];
     let mut i = 0;
     while i < 8 {
-        values[i] = messages::partnered(rule, masks[i] == 0, work, i, i ^ D_4, x, y);
+        values[i] = messages::partnered(rule, masks[i] == 0, work, i, i ^ 4, x, y);
         i += 1;
     }
     values

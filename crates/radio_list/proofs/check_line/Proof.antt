@@ -13,7 +13,7 @@ use Rattle.tally.specs.Tally.{most_blocks}
 use Rattle.radios.specs.Radios.{radio_count}
 use Rattle.scan.specs.Reading.{found}
 use Rattle.radio_list.specs.RadioList.{radio_line, checked_line}
-use Rattle.radio_list.specs.Private.{entry_of, line_read}
+use Rattle.radio_list.specs.Private.{entry, line_read}
 use Rattle.radio_list.proofs.check_line.Statement.{statement}
 use Rattle.radio_list.proofs.check_line.Tie as tie
 
@@ -34,7 +34,7 @@ module _ (c : tie.After-known-told) where
   abbrev next : ℕ
   next = c.before.radio.given.0.1.1.0
 
-  read : radio_line (drop start.args.at text) ≡ found (entry_of radio counts) (drop next text)
+  read : radio_line (drop start.args.at text) ≡ found (entry radio counts) (drop next text)
   read = c.before.before.before.read-line.ensures.0 ∙ ap (line_read text) c.before.radio.given.1
 
 -- the tests that they have passed

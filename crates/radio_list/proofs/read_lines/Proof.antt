@@ -10,7 +10,7 @@ use Rattle.calls.specs.Numbers.{refusal_number}
 use Rattle.radios.specs.Radios.{radio_count}
 use Rattle.radios.specs.Runs.{no_blocks}
 use Rattle.radio_list.specs.RadioList.{Entry, passed, checked_line, lines_from}
-use Rattle.radio_list.specs.Private.{entry_of, checked_read}
+use Rattle.radio_list.specs.Private.{entry, checked_read}
 use Rattle.radio_list.specs.RadioListLaws.{Passes, line-passes, lines_end, lines-failed, lines_next}
 use Rattle.radio_list.proofs.read_lines.Statement.{statement}
 use Rattle.radio_list.proofs.read_lines.Tie as tie
@@ -33,7 +33,7 @@ module _ (c : tie.After-known-told2 invariant-loop decreases-loop) where
   turn = c.before.before.before.before.before
 
   abbrev line : Entry
-  line = entry_of c.before.radio.given.0.0 c.before.radio.given.0.1.0
+  line = entry c.before.radio.given.0.0 c.before.radio.given.0.1.0
 
   abbrev next : ℕ
   next = c.before.radio.given.0.1.1.0

@@ -1,11 +1,10 @@
--- Request 2026-04: settings, lists and texts that differ in the criterion alone, and what it means that two calls of a
--- C function leave the same, whatever the memory held that each was lent to write. Definitions only.
-use Rattle.std.specs.Prelude.{ℕ, ◌≡◌, List, ◌∷◌, leb, length}
+-- Request 2026-04: two calls that differ in the criterion alone, and what it means that they agree. Definitions only.
+use Rattle.std.specs.Prelude.{ℕ, ◌≡◌, List, ◌∷◌, leb, ℤ, length}
 use Rattle.settings.specs.declared.Settings.{Settings}
-use Rattle.decoder.specs.SameDecoding.{SameSlices}
+use Rattle.settings.specs.Slices.{Slices}
+use Rattle.decoder.specs.Decoder.{decode_result, decode_slices}
 use Rattle.scan.specs.Reading.{Reading, found, bind}
 use Rattle.report_input.specs.Input.{longest_text, head}
-use Rattle.vedrogne.specs.Interface.{Lent}
 
 -- the settings with this criterion, all else as it was
 abbrev pub under : ℕ → Settings → Settings
@@ -18,6 +17,12 @@ under criterion s =
       criterion = criterion;
       operand = s.operand;
     }
+
+-- two calls of the decoder with the same mask, LLRs and memory lent: the same refusal number, or the same iteration and
+-- reason; and every slice, the four outputs and the workspace, the same in every element
+pub record SameDecoding (s s' : Settings) (mask : List ℕ) (llr : List ℤ) (lent : Slices) : Type 0 where
+  pub answer : decode_result s mask llr lent ≡ decode_result s' mask llr lent
+  pub slices : decode_slices s mask llr lent ≡ decode_slices s' mask llr lent
 
 -- a list of settings with this criterion, as C hands it in; `behind` are the operand and what follows it. A list of
 -- fewer than five elements has no criterion, and is refused with 7
@@ -34,16 +39,3 @@ pub record TextsDiffer (reading : Reading Settings) (text text' : List ℕ) : Ty
   pub four : head text ≡ reading_under 4 reading
   pub two : head text' ≡ reading_under 2 reading
   pub lengths : leb (length text) longest_text ≡ leb (length text') longest_text
-
--- ---- two calls of a C function: what each was lent to write, before and after, by the number that both return
-
--- a number behind a pointer: the same where the calls are accepted, each call's own where they are refused
-pub record SameWrittenNumber (number old old' new new' : ℕ) : Type 0 where
-  pub accepted : number ≡ 0 → new ≡ new'
-  pub kept : (number ≡ 0 → ⊥) → (new ≡ old) × (new' ≡ old')
-
--- the decoder's slices, iteration and reason
-pub record SameLent (number m : ℕ) (old old' new new' : Lent) : Type 0 where
-  pub slices : SameSlices number m old.slices old'.slices new.slices new'.slices
-  pub iterations : SameWrittenNumber number old.iterations old'.iterations new.iterations new'.iterations
-  pub reason : SameWrittenNumber number old.reason old'.reason new.reason new'.reason
