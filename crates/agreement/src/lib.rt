@@ -1,3 +1,5 @@
 // The theorem that criteria 2 and 4 give equal answers: of the decoder, of a tallied call, of a call for a radio, of
 // the report, and of the C functions that decode.
 // It sees the definitions that their contracts cite, and their laws. It has no function: all of it is in specs/.
+#![tactic(auto)]
+

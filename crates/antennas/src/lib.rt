@@ -1,6 +1,8 @@
 // The front for two antennas: each branch has its 32-bit float samples and its factor, and each pair of samples becomes
 // one whole LLR of size at most the ceiling. It sees `calls` and `channel`. It promises request 2026-06's LLR for each
 // of the first 2^m pairs, for every two floats there are, and the number and the exact condition of each refusal.
+#![tactic(auto)]
+
 ghost use Rattle.std.specs.Prelude.{◌≡◌, ◌&&◌, ◌≤◌, T, leb, length};
 ghost use Rattle.std.specs.Float.{binary32};
 ghost use Rattle.std.specs.Float.Ieee.{mul};

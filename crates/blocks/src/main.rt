@@ -1,6 +1,8 @@
 // Small blocks through the coder, the read-out and the fronts for one antenna and for two, as they are compiled, with
 // an example of each of their refusals.
 // A line for each call gives what it is handed, the number of its answer, and the slice afterwards.
+#![tactic(auto)]
+
 mod coding_twice;
 mod encoding;
 mod front;

@@ -1,6 +1,8 @@
 // What every call of the library shares: its answer, the number that document 01 gives a refusal, the ranges, and (in
 // specs/) bits, signs, tests of many places, and what lent memory holds after the call. It sees no other crate. It
 // promises that each answer has one number, 0 or a refusal's. Its small functions are offered to the crates above.
+#![tactic(auto)]
+
 ghost use Rattle.std.specs.Prelude.{◌≡◌, ◌&&◌, ◌≤◌, nat_abs};
 ghost use Rattle.calls.specs.Numbers.{refusal_number, number_of};
 

@@ -1,6 +1,8 @@
 // The channel front: 32-bit float samples of a Gaussian, a flipping or an erasing channel become whole LLRs of size at
 // most the ceiling. It sees `calls` alone. It promises document 01's LLR for each of the first 2^m samples, for every
 // float there is, and the number and the exact condition of each refusal.
+#![tactic(auto)]
+
 ghost use Rattle.std.specs.Prelude.{◌≡◌, not, ◌<◌, ◌≤◌, ◌^◌, T, nat_abs, length, get_or};
 ghost use Rattle.std.specs.Float.{binary32, nan};
 ghost use Rattle.std.specs.Float.Ieee.{mul, is_nan};

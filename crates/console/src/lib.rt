@@ -6,6 +6,8 @@
 // By inspection and test: that the bytes in memory are those of standard input, in their order and to its end (of the
 // bytes that C's read brings its contract says nothing), that what is handed to C's write arrives, and the lines on
 // standard error. The tests compare what the programs write with stored outputs.
+#![tactic(auto)]
+
 ghost use Rattle.std.specs.Prelude.{◌≡◌, ◌-◌, ◌≤◌, nat_abs, length, take};
 ghost use Rattle.io.specs.Counts.{IsPrefixLen};
 ghost use Rattle.console.specs.Reads.{GotAtMost};

@@ -2,6 +2,8 @@
 // It sees `calls` and `polar`, and reads marks, soft values and the mask, never a message. It promises document 01's
 // marks and criteria, and the criterion of 2026-04. Its functions are offered to the crates above, which have tested
 // the settings and the lengths.
+#![tactic(auto)]
+
 ghost use Rattle.std.specs.Prelude.{◌≡◌, true, ◌+◌, ◌<◌, ◌≤◌, ◌^◌, min, eqb, pos, nat_abs, length, get_or};
 ghost use Rattle.calls.specs.Bounds.{largest_m, largest_ceiling};
 ghost use Rattle.polar.specs.Mask.{by_kind};

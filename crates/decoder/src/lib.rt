@@ -2,6 +2,8 @@
 // It sees the promises of `settings`, `sweeps`, `criteria`, `message` and `polar`. It promises that the answer, the
 // four outputs and the workspace equal document 01's definitions as 2026-02 and 2026-04 amend them, that nothing else
 // is written, and nothing at all after a refusal.
+#![tactic(auto)]
+
 ghost use Rattle.std.specs.Prelude.{◌≡◌, ◌<◌, ◌≤◌, ◌^◌, nat_abs, length};
 ghost use Rattle.calls.specs.Bounds.{largest_ceiling, largest_scale};
 ghost use Rattle.calls.specs.LentMemory.{overwrite};

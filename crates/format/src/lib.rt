@@ -2,6 +2,8 @@
 // It sees `calls`. Each function promises the bytes that the definitions of specs/ give, from the position handed in on
 // (a refusal's from the first), the old contents elsewhere, and the position behind them. All that it asks for is the
 // room.
+#![tactic(auto)]
+
 ghost use Rattle.std.specs.Prelude.{◌≡◌, cond, [], ◌∷◌, ◌++◌, ◌+◌, ◌<◌, ◌≤◌, length, nat_abs};
 ghost use Rattle.calls.specs.Numbers.{refusal_number};
 ghost use Rattle.format.specs.Decimal.{decimal, shown, line};

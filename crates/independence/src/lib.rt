@@ -3,3 +3,5 @@
 // right in every run.
 // It sees the definitions that the contracts of coder, fronts and decoder cite, and their laws. It has no function:
 // all of it is in specs/.
+#![tactic(auto)]
+

@@ -1,6 +1,8 @@
 // Blocks through the decoder as it is compiled: document 01's blocks worked by hand, an example of each refusal, and
 // one message the whole way.
 // A line for each call gives what it is handed, its answer, and the slices afterwards.
+#![tactic(auto)]
+
 mod refused;
 mod say;
 mod small;

@@ -1,6 +1,8 @@
 // The arithmetic of messages: scaled min-sum and the cut sum on signed 16-bit numbers of size at most the ceiling.
 // It sees `calls` alone. It promises document 01's f and its sum, cut after the single addition. Its functions are
 // offered to the crates above, which have tested ceiling and scale.
+#![tactic(auto)]
+
 ghost use Rattle.std.specs.Prelude.{◌≡◌, ◌+◌, ◌*◌, ◌/◌, ◌≤◌, pos, neg_ℤ, nat_abs};
 ghost use Rattle.calls.specs.Bounds.{largest_ceiling, largest_scale};
 ghost use Rattle.calls.specs.Signs.{is_negative, flipped};

@@ -1,6 +1,8 @@
 // The polar code: a message becomes a block of N = 2^m coded bits, and bytes at the information positions are read out
 // again. It sees `calls` alone. It promises document 01's closed form for every coded bit, and the number and the exact
 // condition of each refusal.
+#![tactic(auto)]
+
 ghost use Rattle.std.specs.Prelude.{◌≡◌, ℕ, ◌+◌, ◌<◌, ◌≤◌, ◌^◌, max, leb, length, get_or};
 ghost use Rattle.calls.specs.Every.{every};
 ghost use Rattle.calls.specs.Bounds.{largest_m};

@@ -1,6 +1,8 @@
 // A dispatcher's list of tallies, one for each radio that is listed (request 2026-05), read from a text of bytes.
 // It sees `calls`, `tally`, `radios` and `scan`. It promises the meaning that specs/ gives the text, for every byte
 // string: all 64 tallies, with five zeros for a radio that is not listed, or the number of a refusal.
+#![tactic(auto)]
+
 ghost use Rattle.std.specs.Prelude.{◌≡◌, ◌≤◌, length, drop};
 ghost use Rattle.calls.specs.Numbers.{refusal_number};
 ghost use Rattle.radios.specs.Runs.{no_blocks};

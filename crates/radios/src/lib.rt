@@ -1,6 +1,8 @@
 // A tally for each of 64 radios (request 2026-05), and a decode that counts its answer in the tally of its radio.
 // It sees `calls`, `settings`, `decoder` and `tally`. It promises the decoder's answer and slices, all 64 tallies with
 // that answer counted in the radio's own, and, where 16 or 15 refuses the call, that nothing has changed.
+#![tactic(auto)]
+
 ghost use Rattle.std.specs.Prelude.{◌≡◌, ◌<◌, ltb, set};
 ghost use Rattle.settings.specs.Slices.{slices};
 ghost use Rattle.radios.specs.Radios.{radio_count, tally_of, RadioDecode};

@@ -4,6 +4,8 @@
 // that `console::read_text` counted, by the promise of `radios_text::summary`.
 // By inspection and test: what `console` says of reading and writing. The tests are the lists with stored outputs and
 // the comparison with the second implementation.
+#![tactic(auto)]
+
 use radio_list::LONGEST_LIST;
 use radio_summary::LONGEST_SUMMARY;
 

@@ -2,6 +2,8 @@
 // It sees `radio_list`, `radio_summary` and `format`. It promises, for every byte string, the summary of what it means,
 // or its refusal as the report prints it, from the first byte of the lent array on, the old contents behind, and the
 // length. The array has room for every one.
+#![tactic(auto)]
+
 ghost use Rattle.format.specs.Wrote.{Wrote, Within};
 ghost use Rattle.radios_text.specs.RadiosText.{summary};
 

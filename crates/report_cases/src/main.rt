@@ -1,6 +1,8 @@
 // Texts through the report, as it is compiled: document 01's input and the blocks that it works by hand, other ways to
 // write the same values, and an example of each refusal that a text can cause.
 // For each text a line says what it shows; the report's output follows.
+#![tactic(auto)]
+
 mod accepted;
 mod refused;
 mod say;

@@ -1,6 +1,8 @@
 // The report's input: a text of bytes becomes settings, mask and LLRs.
 // It sees `scan`, `settings` and the block length of `polar`. It promises the meaning that document 01 gives the text,
 // for every byte string and all lengths of the lent slices, and that a refused text writes nothing.
+#![tactic(auto)]
+
 ghost use Rattle.std.specs.Prelude.{◌≡◌, ◌≤◌, ◌<◌, ◌^◌, min, length, drop};
 ghost use Rattle.calls.specs.Bounds.{largest_m};
 ghost use Rattle.calls.specs.Numbers.{number_of, between};

@@ -4,6 +4,8 @@
 // that `console::read_text` counted, by the promise of `report_text::report`.
 // By inspection and test: what `console` says of reading and writing. The tests are the texts with stored outputs and
 // the comparison with the second implementation.
+#![tactic(auto)]
+
 use report_input::LONGEST_TEXT;
 use report_text::REPORT_ROOM;
 

@@ -2,6 +2,8 @@
 // It sees `report_input`, `decoder` and `format`. It promises the text that document 01, as the requests amend it,
 // gives for every byte string, from the first byte of the lent array on, its old contents behind, and the text's
 // length. The array has room for every outcome.
+#![tactic(auto)]
+
 ghost use Rattle.std.specs.Prelude.{◌≡◌, ◌+◌, ◌*◌, ◌≤◌, length};
 ghost use Rattle.calls.specs.Bounds.{most_positions, most_workspace};
 ghost use Rattle.report_input.specs.Input.{block_of};

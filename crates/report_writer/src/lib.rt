@@ -2,6 +2,8 @@
 // It sees `report_input` for the decoder's tests, `format`, and the block length of `polar`; its definitions take the
 // names that the reader compares. It promises the text that request 2026-01 gives, from the first byte of the lent
 // slice on, its old contents behind, and the text's length; or the number of a refusal, where nothing is written.
+#![tactic(auto)]
+
 ghost use Rattle.std.specs.Prelude.{◌≡◌, [], ◌∷◌, ◌+◌, ◌≤◌, pos, length};
 ghost use Rattle.calls.specs.Bounds.{most_positions};
 ghost use Rattle.format.specs.Decimal.{line};

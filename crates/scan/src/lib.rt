@@ -1,6 +1,8 @@
 // Reads numbers, lines of values and fixed texts from a text of bytes, at positions.
 // It sees `calls` for its definitions. It promises that each reading finds what the definitions of specs/ find, and
 // where the text goes on. A position, handed in or answered, is that of a byte of the text or of its end.
+#![tactic(auto)]
+
 ghost use Rattle.std.specs.Prelude.{◌≡◌, ◌≤◌, eqb, pos, length, drop, take};
 ghost use Rattle.calls.specs.LentMemory.{written_over};
 ghost use Rattle.calls.specs.Signs.{flipped};

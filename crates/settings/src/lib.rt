@@ -1,5 +1,7 @@
 // The decoder's settings, and every test that a call of the decoder makes before it writes.
 // It sees `calls` and `polar`. It promises the number and the exact condition of each refusal from 1 to 10.
+#![tactic(auto)]
+
 ghost use Rattle.std.specs.Prelude.{◌≡◌, ◌&&◌, ◌≤◌, ◌^◌, length};
 ghost use Rattle.std.specs.Int.Signed.{le_z};
 ghost use Rattle.calls.specs.Bounds.{largest_m, largest_ceiling};

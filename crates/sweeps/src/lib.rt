@@ -5,6 +5,8 @@
 //
 // A step writes one row from two others. It has five shapes, a file each, all with one promise, `row_step`: `row_step`
 // chooses by the distance and the block length. `messages` has the formulas, and `arrays` what the shapes share.
+#![tactic(auto)]
+
 ghost use Rattle.std.specs.Prelude.{◌≡◌, ◌+◌, ◌*◌, ◌<◌, ◌≤◌, ◌^◌, pos, length, get_or};
 ghost use Rattle.calls.specs.Bounds.{largest_m, largest_ceiling, workspace_length};
 ghost use Rattle.calls.specs.LentMemory.{overwrite};

@@ -1,6 +1,8 @@
 // A tally of the decoder's endings, and a decode that counts its own.
 // It sees `calls`, `settings` and `decoder`. It promises the decoder's answer and slices, the tally with that answer
 // counted, and, where 15 refuses the tally, that nothing has changed.
+#![tactic(auto)]
+
 ghost use Rattle.std.specs.Prelude.{◌≡◌};
 ghost use Rattle.decoder.specs.Decoder.{result_of};
 ghost use Rattle.settings.specs.Slices.{slices};

@@ -4,6 +4,8 @@
 // bytes that `console::read_text` counted, by the promise of `tidy_text::tidy`.
 // By inspection and test: what `console` says of reading and writing. The tests are the texts with stored outputs and
 // the comparison with the second implementation.
+#![tactic(auto)]
+
 use report_input::LONGEST_TEXT;
 use report_writer::LONGEST_TIDY_TEXT;
 

@@ -2,6 +2,8 @@
 // It sees `report_input`, `report_writer` and `format`, and `report_text` for its laws. It promises, for every byte
 // string, the tidy text of what it means, or its refusal as the report prints it, from the first byte of the lent array
 // on, the old contents behind, and the length. The array has room for every one.
+#![tactic(auto)]
+
 ghost use Rattle.std.specs.Prelude.{◌≡◌, ◌≤◌, length};
 ghost use Rattle.format.specs.Wrote.{Wrote, Within};
 ghost use Rattle.report_input.specs.Input.{block_of, block_number};

@@ -1,6 +1,8 @@
 // Coding twice, as a function: the coder, and the coder again on the block that it wrote.
 // It sees the promises of `polar` alone. It promises the number and both blocks, for every mask; that the message comes
 // back where every position is an information position is a law about them.
+#![tactic(auto)]
+
 ghost use Rattle.std.specs.Prelude.{◌≡◌, ◌^◌, leb, length};
 ghost use Rattle.calls.specs.Numbers.{number_of, check, first_refusal};
 ghost use Rattle.polar.specs.Code.{encode_number};

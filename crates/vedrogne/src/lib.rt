@@ -6,6 +6,8 @@
 // a tally that counts it.
 // A slice is a pointer and a length in elements, two parameters in C. No function requires anything of the values
 // handed in.
+#![tactic(auto)]
+
 ghost use Rattle.std.specs.Prelude.{◌≡◌, ◌++◌, ◌+◌, ◌≤◌, length, take, drop};
 ghost use Rattle.polar.specs.Code.{encode_number, encode_block, read_out_number, read_out_message};
 ghost use Rattle.channel.specs.Front.{front_number, front_llrs};
