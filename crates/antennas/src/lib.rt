@@ -28,7 +28,7 @@ use calls::{Answer, LARGEST_CEILING, LARGEST_M, Refusal};
 const LARGEST_PRODUCT: f32 = 4096.0;
 
 // The factor of each branch.
-#[derive(Drop)]
+#[derive(Clone, Copy)]
 pub struct Receiver {
     pub first: f32,
     pub second: f32,

@@ -19,7 +19,7 @@ pub const MOST_POSITIONS: usize = 1024;
 pub const MOST_WORKSPACE: usize = 22528;
 
 // Why a call is refused, in the order of the numbers.
-#[derive(Drop)]
+#[derive(Clone, Copy)]
 pub enum Refusal {
     BlockLength,
     Ceiling,
@@ -40,7 +40,7 @@ pub enum Refusal {
 }
 
 // The answer of a call whose results all stand in lent memory.
-#[derive(Drop)]
+#[derive(Clone, Copy)]
 pub enum Answer {
     Done,
     Refused(Refusal),

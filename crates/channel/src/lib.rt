@@ -25,7 +25,7 @@ ghost use Rattle.channel.specs.Private.{is_within, whole_of, by_sign};
 use calls::{Answer, LARGEST_CEILING, LARGEST_M, Refusal};
 
 // The kind of channel: Gaussian with its factor, flipping with its weight, erasing.
-#[derive(Drop)]
+#[derive(Clone, Copy)]
 pub enum Channel {
     Gaussian(f32),
     Flipping(f32),

@@ -17,7 +17,7 @@ ghost use Rattle.criteria.specs.Private.{SoftValues, MarkBytes, most_remembered,
 use calls::MOST_POSITIONS;
 
 // The criterion that ends the decoding. A later criterion joins them here.
-#[derive(Drop)]
+#[derive(Clone, Copy)]
 pub enum Criterion {
     Never,
     GMatrix,
@@ -200,14 +200,14 @@ fn steady_after(iterations: u32, steady: u32, same: bool) -> u32
 // What a criterion remembers between iterations: how many there were, and under criterion 3 how many of the last ones
 // kept the marks at the information positions. The decoder hands it on and takes no part of it; what a later
 // criterion remembers joins it here.
-#[derive(Drop)]
+#[derive(Clone, Copy)]
 pub struct Memory {
     iterations: u32,
     steady: u32,
 }
 
 // What is left of an iteration beside the marks: what the criterion remembers from now on, and whether it holds.
-#[derive(Drop)]
+#[derive(Clone, Copy)]
 pub struct Progress {
     pub memory: Memory,
     pub holds: bool,

@@ -34,14 +34,14 @@ use message::MinSum;
 use settings::{Lengths, Settings};
 
 // Why the decoder ended: the criterion held, or the limit was reached.
-#[derive(Drop)]
+#[derive(Clone, Copy)]
 pub enum Reason {
     Criterion,
     Limit,
 }
 
 // The iteration at which it ended, and the reason; or a refusal.
-#[derive(Drop)]
+#[derive(Clone, Copy)]
 pub enum Outcome {
     Ended(u32, Reason),
     Refused(Refusal),

@@ -11,7 +11,7 @@ ghost use Rattle.message.specs.MessageLaws.{RuleInRange};
 ghost use Rattle.message.specs.Private.{lesser, greater};
 
 // The settings of the message arithmetic: the ceiling C and the scale k. A later setting of f joins them here.
-#[derive(Drop)]
+#[derive(Clone, Copy)]
 pub struct MinSum {
     pub ceiling: u16,
     pub scale: u16,

@@ -33,7 +33,7 @@ ghost use Rattle.std.specs.Int.Bits.{bit_xor};
 use calls::{Answer, LARGEST_M, Refusal};
 
 // The settings of a code. Coder and read-out take them by value, so that a later setting joins them here.
-#[derive(Drop)]
+#[derive(Clone, Copy)]
 pub struct Code {
     pub m: u32,
 }

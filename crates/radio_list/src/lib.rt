@@ -18,14 +18,14 @@ use tally::{MOST_BLOCKS, Tally};
 pub const LONGEST_LIST: usize = 32768;
 
 // The tallies of all radios, five zeros each after a refusal.
-#[derive(Drop)]
+#[derive(Clone, Copy)]
 pub struct RadioList {
     pub radios: Radios,
     pub answer: Answer,
 }
 
 // The numbers of a line, and the position behind it.
-#[derive(Drop)]
+#[derive(Clone, Copy)]
 enum Line {
     Found {
         radio: u32,
@@ -36,7 +36,7 @@ enum Line {
 }
 
 // A line that passes its tests, or what refuses it.
-#[derive(Drop)]
+#[derive(Clone, Copy)]
 enum Checked {
     Passed {
         radio: u32,

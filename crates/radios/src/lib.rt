@@ -17,13 +17,13 @@ use tally::Tally;
 pub const RADIOS: usize = 64;
 
 // The tally of each radio, at its number.
-#[derive(Drop)]
+#[derive(Clone, Copy)]
 pub struct Radios {
     pub tallies: [Tally; RADIOS],
 }
 
 // What a call for a radio hands back.
-#[derive(Drop)]
+#[derive(Clone, Copy)]
 pub struct RadioTallied {
     pub radios: Radios,
     pub outcome: Outcome,

@@ -26,28 +26,28 @@ pub const LONGEST_TEXT: usize = 32768;
 const OUTSIDE_RANGES: u32 = 1000000;
 
 // How many elements the lent slices of mask and LLRs have.
-#[derive(Drop)]
+#[derive(Clone, Copy)]
 pub struct Room {
     pub mask: usize,
     pub llr: usize,
 }
 
 // The settings of an accepted text, whose mask and LLRs stand in the lent slices.
-#[derive(Drop)]
+#[derive(Clone, Copy)]
 pub enum Input {
     Accepted(Settings),
     Refused(Refusal),
 }
 
 // The first three lines: the settings, and the position behind them.
-#[derive(Drop)]
+#[derive(Clone, Copy)]
 pub enum Head {
     Found { settings: Settings, next: usize },
     Malformed,
 }
 
 // The line of a position: its mask value and LLR, and the position in the text behind it.
-#[derive(Drop)]
+#[derive(Clone, Copy)]
 pub enum Position {
     Found { frozen: u8, llr: i16, next: usize },
     Malformed,

@@ -21,7 +21,7 @@ use settings::Settings;
 pub const LONGEST_TIDY_TEXT: usize = 12283;
 
 // The length of the text, or a refusal.
-#[derive(Drop)]
+#[derive(Clone, Copy)]
 pub enum Written {
     Length(usize),
     Refused(Refusal),

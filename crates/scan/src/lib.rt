@@ -13,28 +13,28 @@ ghost use Rattle.scan.specs.Answers.{value_read, item_read, read_to, ValueWithin
 ghost use Rattle.scan.specs.Answers.{values_stored};
 
 // A value and the position behind it.
-#[derive(Drop)]
+#[derive(Clone, Copy)]
 pub enum Value {
     Found { value: i32, next: usize },
     Missing,
 }
 
 // A count of a line, and the position behind what follows it.
-#[derive(Drop)]
+#[derive(Clone, Copy)]
 pub enum Item {
     Count(u32, usize),
     NoCount,
 }
 
 // The position behind what was read.
-#[derive(Drop)]
+#[derive(Clone, Copy)]
 pub enum Next {
     At(usize),
     Malformed,
 }
 
 // The number that digits write, and the position behind them.
-#[derive(Drop)]
+#[derive(Clone, Copy)]
 struct Natural {
     value: u32,
     next: usize,

@@ -18,7 +18,7 @@ const LARGEST_LIMIT: u32 = 64;
 const LARGEST_CRITERION: u32 = 4;
 
 // The settings travel as one struct by value, so that a later setting joins them here.
-#[derive(Drop)]
+#[derive(Clone, Copy)]
 pub struct Settings {
     pub m: u32,
     pub ceiling: u32,
@@ -29,7 +29,7 @@ pub struct Settings {
 }
 
 // The lengths of the slices that are lent to be written.
-#[derive(Drop)]
+#[derive(Clone, Copy)]
 pub struct Lengths {
     pub soft: usize,
     pub mark: usize,

@@ -22,7 +22,7 @@ pub const MOST_BLOCKS: u32 = 1000000;
 const MOST_ITERATIONS: u64 = 200;
 
 // Blocks, endings by each reason, refusals and iterations so far.
-#[derive(Drop)]
+#[derive(Clone, Copy)]
 pub struct Tally {
     pub blocks: u32,
     pub by_criterion: u32,
@@ -32,7 +32,7 @@ pub struct Tally {
 }
 
 // What a tallied call hands back.
-#[derive(Drop)]
+#[derive(Clone, Copy)]
 pub struct Tallied {
     pub tally: Tally,
     pub outcome: Outcome,

@@ -1,0 +1,36 @@
+-- `butterflies` meets its contract: the first p positions, whole runs of d, are as the step makes them.
+use Prim.Native.Nat.{◌≤◌, ◌-◌, ◌+◌, ◌^◌}
+use mathlib.Core.Path.{◌≡◌, ◌∙◌}
+use native.Mathlib.Omega.{arith}
+use Rattle.polar.specs.Columns.{digit}
+use Rattle.polar.specs.DigitLaws.{mask-clear, mask-set, run_fits, upper_fits}
+use Rattle.polar.proofs.Sixteens.{distance-sixteens}
+use Rattle.polar.proofs.Steps.{stepped-length, stepped-upper, stepped-lower}
+use Rattle.polar.proofs.butterflies.Goals as goal
+use Rattle.polar.proofs.butterflies.Goals.{else-p-d-eq0, then-p-d-eq0}
+
+pub join-requires-clause-d_in_bounds : goal.join-requires-clause-d_in_bounds
+join-requires-clause-d_in_bounds c =
+    let pair_fits : digit c.args.t c.loop-p.p ≡ 0 → c.loop-p.p + 2 ^ c.args.t + 2 ^ c.args.t ≤ 2 ^ c.args.m = upper_fits _ _ c.loop-p.invariant.3.runs _ c.requires.m_le_largest_m.1 (omega arith) in
+    let h = c.loop-p.invariant in (omega (arith, c.requires.bits.long, stepped-length h.3, pair_fits (mask-clear _ _ _ h.1 c.if-p-d-eq0.true)))
+
+pub join-requires-clause-multiple : goal.join-requires-clause-multiple
+join-requires-clause-multiple c =
+    let pair_fits : digit c.args.t c.loop-p.p ≡ 0 → c.loop-p.p + 2 ^ c.args.t + 2 ^ c.args.t ≤ 2 ^ c.args.m = upper_fits _ _ c.loop-p.invariant.3.runs _ c.requires.m_le_largest_m.1 (omega arith) in
+    let h = c.loop-p.invariant in (distance-sixteens _ _ h.1)
+
+pub loop-p-preserved : goal.loop-p-preserved
+loop-p-preserved c =
+    let fits : c.loop-p.p + 2 ^ c.args.t ≤ 2 ^ c.args.m = run_fits _ _ c.loop-p.invariant.3.runs _ c.requires.m_le_largest_m.1 (omega arith) in
+    let h = c.loop-p.invariant in (
+      h.0,
+      h.1,
+      omega (arith, fits),
+      (elim c.if-p-d-eq0.branch [
+        | then-p-d-eq0 w ↦ stepped-upper h.3 c.args.m c.requires.m_le_largest_m.1 (omega arith) c.requires.bits
+            (mask-clear _ _ _ h.1 w.if-p-d-eq0.true) _ _ h.1 (w.5 ∙ w.2.ensures)
+        | else-p-d-eq0 w ↦ rw w.1
+            (stepped-lower h.3 c.args.m c.requires.m_le_largest_m.1 (omega arith) c.requires.bits
+            (mask-set _ _ _ h.1 w.if-p-d-eq0.false) _ h.1)
+      ]),
+    )
