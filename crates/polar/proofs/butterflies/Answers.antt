@@ -28,8 +28,8 @@ loop-p-preserved c =
       omega (arith, fits),
       (elim c.if-p-d-eq0.branch [
         | then-p-d-eq0 w ↦ stepped-upper h.3 c.args.m c.requires.m_le_largest_m.1 (omega arith) c.requires.bits
-            (mask-clear _ _ _ h.1 w.if-p-d-eq0.true) _ _ h.1 (w.5 ∙ w.2.ensures)
-        | else-p-d-eq0 w ↦ rw w.1
+            (mask-clear _ _ _ h.1 w.if-p-d-eq0.true) _ _ h.1 (w.block-is ∙ w.join.ensures)
+        | else-p-d-eq0 w ↦ rw w.block-is
             (stepped-lower h.3 c.args.m c.requires.m_le_largest_m.1 (omega arith) c.requires.bits
             (mask-set _ _ _ h.1 w.if-p-d-eq0.false) _ h.1)
       ]),
