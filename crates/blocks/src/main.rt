@@ -10,18 +10,18 @@ mod reading;
 mod say;
 mod two_antennas;
 
-fn main() {
-    encoding::small_blocks();
-    encoding::longer();
-    encoding::refused();
-    coding_twice::blocks();
-    reading::blocks();
-    reading::refused();
-    front::gaussian();
-    front::signs();
-    front::refused_settings();
-    front::refused_channel();
-    two_antennas::sums();
-    two_antennas::cuts();
-    two_antennas::refused();
+fn main(rt: HostRuntime) {
+    encoding::small_blocks(&rt);
+    encoding::longer(&rt);
+    encoding::refused(&rt);
+    coding_twice::blocks(&rt);
+    reading::blocks(&rt);
+    reading::refused(&rt);
+    front::gaussian(&rt);
+    front::signs(&rt);
+    front::refused_settings(&rt);
+    front::refused_channel(&rt);
+    two_antennas::sums(&rt);
+    two_antennas::cuts(&rt);
+    two_antennas::refused(&rt);
 }

@@ -8,12 +8,12 @@ mod say;
 mod small;
 mod whole;
 
-fn main() {
-    small::first_blocks();
-    small::other_criteria();
-    small::four_positions();
-    small::longer();
-    refused::ranges();
-    refused::blocks();
-    whole::link();
+fn main(rt: HostRuntime) {
+    small::first_blocks(&rt);
+    small::other_criteria(&rt);
+    small::four_positions(&rt);
+    small::longer(&rt);
+    refused::ranges(&rt);
+    refused::blocks(&rt);
+    whole::link(&rt);
 }

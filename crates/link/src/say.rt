@@ -4,23 +4,23 @@ use decoder::Outcome;
 use settings::Settings;
 
 // The decoder's answer: the iteration and the reason, or the number of its refusal.
-pub fn outcome(outcome: Outcome) {
+pub fn outcome(rt: &HostRuntime, outcome: Outcome) {
     match outcome {
         Outcome::Ended(iterations, why) => {
-            console::number(b" answer ", iterations);
-            console::number(b" ", decoder::reason_number(why));
+            console::number(rt, b" answer ", iterations);
+            console::number(rt, b" ", decoder::reason_number(why));
         }
         Outcome::Refused(refusal) => {
-            console::number(b" answer refused ", calls::number(Answer::Refused(refusal)));
+            console::number(rt, b" answer refused ", calls::number(Answer::Refused(refusal)));
         }
     }
 }
 
-pub fn settings(settings: Settings) {
-    console::number(b" m=", settings.m);
-    console::number(b" C=", settings.ceiling);
-    console::number(b" k=", settings.scale);
-    console::number(b" T=", settings.limit);
-    console::number(b" criterion ", settings.criterion);
-    console::number(b" operand ", settings.operand);
+pub fn settings(rt: &HostRuntime, settings: Settings) {
+    console::number(rt, b" m=", settings.m);
+    console::number(rt, b" C=", settings.ceiling);
+    console::number(rt, b" k=", settings.scale);
+    console::number(rt, b" T=", settings.limit);
+    console::number(rt, b" criterion ", settings.criterion);
+    console::number(rt, b" operand ", settings.operand);
 }

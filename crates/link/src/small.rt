@@ -5,26 +5,26 @@ use crate::say;
 use settings::Settings;
 
 // What a call is handed.
-fn before(name: &[u8], settings: Settings, mask: &[u8], llr: &[i16]) {
-    console::text(b"decode ");
-    console::text(name);
-    say::settings(settings);
-    console::bytes(b" mask", mask);
-    console::values(b" llr", llr);
+fn before(rt: &HostRuntime, name: &[u8], settings: Settings, mask: &[u8], llr: &[i16]) {
+    console::text(rt, b"decode ");
+    console::text(rt, name);
+    say::settings(rt, settings);
+    console::bytes(rt, b" mask", mask);
+    console::values(rt, b" llr", llr);
 }
 
 // The slices that it was lent.
-fn after(soft: &[i16], mark: &[u8], coded_soft: &[i16], coded_mark: &[u8], work: &[i16]) {
-    console::values(b" soft", soft);
-    console::bytes(b" mark", mark);
-    console::values(b" coded", coded_soft);
-    console::bytes(b" codedmark", coded_mark);
-    console::values(b" work", work);
-    console::text(b"\n");
+fn after(rt: &HostRuntime, soft: &[i16], mark: &[u8], coded_soft: &[i16], coded_mark: &[u8], work: &[i16]) {
+    console::values(rt, b" soft", soft);
+    console::bytes(rt, b" mark", mark);
+    console::values(rt, b" coded", coded_soft);
+    console::bytes(rt, b" codedmark", coded_mark);
+    console::values(rt, b" work", work);
+    console::text(rt, b"\n");
 }
 
 // One call of the decoder: what it is handed, its answer, and the lent slices afterwards.
-pub fn decode(
+pub fn decode(rt: &HostRuntime, 
     name: &[u8],
     settings: Settings,
     mask: &[u8],
@@ -35,21 +35,21 @@ pub fn decode(
     coded_mark: &mut [u8],
     work: &mut [i16],
 ) {
-    before(name, settings, mask, llr);
-    say::outcome(decoder::decode(
+    before(rt, name, settings, mask, llr);
+    say::outcome(rt, decoder::decode(
         settings, mask, llr, soft, mark, coded_soft, coded_mark, work,
     ));
-    after(soft, mark, coded_soft, coded_mark, work);
+    after(rt, soft, mark, coded_soft, coded_mark, work);
 }
 
 // The same with slices for two positions.
-pub fn pair(name: &[u8], settings: Settings, mask: &[u8], llr: &[i16]) {
+pub fn pair(rt: &HostRuntime, name: &[u8], settings: Settings, mask: &[u8], llr: &[i16]) {
     let mut soft = [9i16; 3];
     let mut mark = [9u8; 3];
     let mut coded_soft = [9i16; 3];
     let mut coded_mark = [9u8; 3];
     let mut work = [9i16; 9];
-    decode(
+    decode(rt, 
         name,
         settings,
         mask,
@@ -75,31 +75,31 @@ pub fn of(scale: u32, limit: u32, criterion: u32, operand: u32) -> Settings {
 }
 
 // The mask and LLRs of P1, with settings of the caller's.
-pub fn first(name: &[u8], settings: Settings) {
-    pair(name, settings, &[1, 0], &[5, -3]);
+pub fn first(rt: &HostRuntime, name: &[u8], settings: Settings) {
+    pair(rt, name, settings, &[1, 0], &[5, -3]);
 }
 
 // P1 to P5. The last two end undecided.
-pub fn first_blocks() {
-    first(b"P1", of(16, 10, 1, 0));
-    pair(b"P2", of(16, 10, 1, 0), &[1, 0], &[-5, 3]);
-    first(b"P3", of(15, 10, 1, 0));
-    pair(b"P4", of(16, 10, 1, 0), &[1, 0], &[3, -3]);
-    pair(b"P5", of(16, 10, 1, 0), &[0, 1], &[7, -31]);
+pub fn first_blocks(rt: &HostRuntime) {
+    first(rt, b"P1", of(16, 10, 1, 0));
+    pair(rt, b"P2", of(16, 10, 1, 0), &[1, 0], &[-5, 3]);
+    first(rt, b"P3", of(15, 10, 1, 0));
+    pair(rt, b"P4", of(16, 10, 1, 0), &[1, 0], &[3, -3]);
+    pair(rt, b"P5", of(16, 10, 1, 0), &[0, 1], &[7, -31]);
 }
 
 // P6 and P7: the least size, of every position and of information positions (2026-04), and steady marks.
-pub fn other_criteria() {
-    first(b"P6", of(16, 10, 2, 2));
-    first(b"P6", of(16, 10, 2, 3));
-    first(b"P6", of(16, 10, 4, 2));
-    first(b"P6", of(16, 10, 4, 3));
-    first(b"P7", of(16, 10, 3, 1));
-    first(b"P7", of(16, 1, 3, 1));
+pub fn other_criteria(rt: &HostRuntime) {
+    first(rt, b"P6", of(16, 10, 2, 2));
+    first(rt, b"P6", of(16, 10, 2, 3));
+    first(rt, b"P6", of(16, 10, 4, 2));
+    first(rt, b"P6", of(16, 10, 4, 3));
+    first(rt, b"P7", of(16, 10, 3, 1));
+    first(rt, b"P7", of(16, 1, 3, 1));
 }
 
 // P8, of four positions.
-pub fn four_positions() {
+pub fn four_positions(rt: &HostRuntime) {
     let settings = Settings {
         m: 2,
         ceiling: 31,
@@ -113,7 +113,7 @@ pub fn four_positions() {
     let mut coded_soft = [9i16; 5];
     let mut coded_mark = [9u8; 5];
     let mut work = [9i16; 25];
-    decode(
+    decode(rt, 
         b"P8",
         settings,
         &[1, 1, 1, 0],
@@ -127,6 +127,6 @@ pub fn four_positions() {
 }
 
 // A mask and LLRs that are longer than needed: what lies behind is not read.
-pub fn longer() {
-    pair(b"accepted", of(16, 3, 0, 0), &[1, 0, 7], &[5, -3, 99]);
+pub fn longer(rt: &HostRuntime) {
+    pair(rt, b"accepted", of(16, 3, 0, 0), &[1, 0, 7], &[5, -3, 99]);
 }

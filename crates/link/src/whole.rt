@@ -58,25 +58,25 @@ fn differences(sent: &[u8; 32], read: &[u8; 33]) -> u32 {
 }
 
 // The message is coded.
-fn code(mask: &[u8], message: &[u8], block: &mut [u8]) {
-    console::bytes(b"link m=6 message", message);
-    console::answer(polar::encode(Code { m: 6 }, mask, message, block));
-    console::bytes(b" block", block);
-    console::text(b"\n");
+fn code(rt: &HostRuntime, mask: &[u8], message: &[u8], block: &mut [u8]) {
+    console::bytes(rt, b"link m=6 message", message);
+    console::answer(rt, polar::encode(Code { m: 6 }, mask, message, block));
+    console::bytes(rt, b" block", block);
+    console::text(rt, b"\n");
 }
 
 // The block as one antenna receives it.
-fn front(block: &[u8; 65], llr: &mut [i16]) {
+fn front(rt: &HostRuntime, block: &[u8; 65], llr: &mut [i16]) {
     let mut samples = [0.0f32; 64];
     fill_samples(block, 1.0, 5, &mut samples);
-    console::text(b"link gaussian 8 m=6 C=127");
-    console::answer(channel::front(6, 127, Channel::Gaussian(8.0), &samples, llr));
-    console::values(b" llr", llr);
-    console::text(b"\n");
+    console::text(rt, b"link gaussian 8 m=6 C=127");
+    console::answer(rt, channel::front(6, 127, Channel::Gaussian(8.0), &samples, llr));
+    console::values(rt, b" llr", llr);
+    console::text(rt, b"\n");
 }
 
 // The block as two antennas receive it, the second three quarters as strong.
-fn front_two(block: &[u8; 65], llr: &mut [i16]) {
+fn front_two(rt: &HostRuntime, block: &[u8; 65], llr: &mut [i16]) {
     let mut first = [0.0f32; 64];
     fill_samples(block, 1.0, 5, &mut first);
     let mut second = [0.0f32; 64];
@@ -85,19 +85,19 @@ fn front_two(block: &[u8; 65], llr: &mut [i16]) {
         first: 8.0,
         second: 6.0,
     };
-    console::text(b"link two 8 6 m=6 C=127");
-    console::answer(antennas::front_two(6, 127, receiver, &first, &second, llr));
-    console::values(b" llr", llr);
-    console::text(b"\n");
+    console::text(rt, b"link two 8 6 m=6 C=127");
+    console::answer(rt, antennas::front_two(6, 127, receiver, &first, &second, llr));
+    console::values(rt, b" llr", llr);
+    console::text(rt, b"\n");
 }
 
 // What the decoder makes of the LLRs: its answer, and its marks.
-fn decode(settings: Settings, mask: &[u8], llr: &[i16], mark: &mut [u8]) {
+fn decode(rt: &HostRuntime, settings: Settings, mask: &[u8], llr: &[i16], mark: &mut [u8]) {
     let mut soft = [9i16; 65];
     let mut coded_soft = [9i16; 65];
     let mut coded_mark = [9u8; 65];
     let mut work = [9i16; 897];
-    say::outcome(decoder::decode(
+    say::outcome(rt, decoder::decode(
         settings,
         mask,
         llr,
@@ -110,17 +110,17 @@ fn decode(settings: Settings, mask: &[u8], llr: &[i16], mark: &mut [u8]) {
 }
 
 // The read-out of the marks, beside the message.
-fn read_out(mask: &[u8], mark: &[u8], message: &[u8; 32]) {
+fn read_out(rt: &HostRuntime, mask: &[u8], mark: &[u8], message: &[u8; 32]) {
     let mut read = [9u8; 33];
-    console::text(b" read_out");
-    console::answer(polar::read_out(Code { m: 6 }, mask, mark, &mut read));
-    console::bytes(b" message", &read);
-    console::number(b" wrong ", differences(message, &read));
-    console::text(b"\n");
+    console::text(rt, b" read_out");
+    console::answer(rt, polar::read_out(Code { m: 6 }, mask, mark, &mut read));
+    console::bytes(rt, b" message", &read);
+    console::number(rt, b" wrong ", differences(message, &read));
+    console::text(rt, b"\n");
 }
 
 // One limit and criterion on the LLRs.
-fn receive(limit: u32, criterion: u32, operand: u32, mask: &[u8], message: &[u8; 32], llr: &[i16]) {
+fn receive(rt: &HostRuntime, limit: u32, criterion: u32, operand: u32, mask: &[u8], message: &[u8; 32], llr: &[i16]) {
     let settings = Settings {
         m: 6,
         ceiling: 127,
@@ -130,23 +130,23 @@ fn receive(limit: u32, criterion: u32, operand: u32, mask: &[u8], message: &[u8;
         operand,
     };
     let mut mark = [9u8; 65];
-    console::text(b"link");
-    say::settings(settings);
-    decode(settings, mask, llr, &mut mark);
-    read_out(mask, &mark, message);
+    console::text(rt, b"link");
+    say::settings(rt, settings);
+    decode(rt, settings, mask, llr, &mut mark);
+    read_out(rt, mask, &mark, message);
 }
 
 // Each criterion from 1 on; then the limit, before the criterion can hold.
-fn criteria(mask: &[u8], message: &[u8; 32], llr: &[i16]) {
-    receive(40, 1, 0, mask, message, llr);
-    receive(40, 2, 20, mask, message, llr);
-    receive(40, 3, 8, mask, message, llr);
-    receive(40, 4, 20, mask, message, llr);
-    receive(1, 1, 0, mask, message, llr);
+fn criteria(rt: &HostRuntime, mask: &[u8], message: &[u8; 32], llr: &[i16]) {
+    receive(rt, 40, 1, 0, mask, message, llr);
+    receive(rt, 40, 2, 20, mask, message, llr);
+    receive(rt, 40, 3, 8, mask, message, llr);
+    receive(rt, 40, 4, 20, mask, message, llr);
+    receive(rt, 1, 1, 0, mask, message, llr);
 }
 
 // 32 of the 64 positions are frozen.
-pub fn link() {
+pub fn link(rt: &HostRuntime) {
     let mut mask = [0u8; 64];
     fill_bits(
         b"1111111011101000111010001010100011101010111010001110100010000000",
@@ -155,11 +155,11 @@ pub fn link() {
     let mut message = [0u8; 32];
     fill_bits(b"11000110001100011000110001100011", &mut message);
     let mut block = [9u8; 65];
-    code(&mask, &message, &mut block);
+    code(rt, &mask, &message, &mut block);
     let mut llr = [9i16; 65];
-    front(&block, &mut llr);
-    criteria(&mask, &message, &llr);
+    front(rt, &block, &mut llr);
+    criteria(rt, &mask, &message, &llr);
     let mut both = [9i16; 65];
-    front_two(&block, &mut both);
-    receive(40, 1, 0, &mask, &message, &both);
+    front_two(rt, &block, &mut both);
+    receive(rt, 40, 1, 0, &mask, &message, &both);
 }

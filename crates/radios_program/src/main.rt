@@ -9,11 +9,11 @@
 use radio_list::LONGEST_LIST;
 use radio_summary::LONGEST_SUMMARY;
 
-fn main() {
+fn main(rt: HostRuntime) {
     // one byte more than an accepted list can have
     let mut text = [0u8; LONGEST_LIST + 1];
-    let n = console::read_text(b"radios", &mut text);
+    let n = console::read_text(&rt, b"radios", &mut text);
     let mut out = [0u8; LONGEST_SUMMARY];
     let length = radios_text::summary(&text[..n], &mut out);
-    console::write_text(b"radios", &out[..length]);
+    console::write_text(&rt, b"radios", &out[..length]);
 }

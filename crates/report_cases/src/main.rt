@@ -7,11 +7,11 @@ mod accepted;
 mod refused;
 mod say;
 
-fn main() {
-    accepted::printed();
-    accepted::worked();
-    accepted::other_criteria();
-    accepted::spellings();
-    refused::settings();
-    refused::positions();
+fn main(rt: HostRuntime) {
+    accepted::printed(&rt);
+    accepted::worked(&rt);
+    accepted::other_criteria(&rt);
+    accepted::spellings(&rt);
+    refused::settings(&rt);
+    refused::positions(&rt);
 }

@@ -9,11 +9,11 @@
 use report_input::LONGEST_TEXT;
 use report_text::REPORT_ROOM;
 
-fn main() {
+fn main(rt: HostRuntime) {
     // one byte more than an accepted text can have
     let mut text = [0u8; LONGEST_TEXT + 1];
-    let n = console::read_text(b"report", &mut text);
+    let n = console::read_text(&rt, b"report", &mut text);
     let mut out = [0u8; REPORT_ROOM];
     let length = report_text::report(&text[..n], &mut out);
-    console::write_text(b"report", &out[..length]);
+    console::write_text(&rt, b"report", &out[..length]);
 }

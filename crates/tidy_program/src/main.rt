@@ -9,11 +9,11 @@
 use report_input::LONGEST_TEXT;
 use report_writer::LONGEST_TIDY_TEXT;
 
-fn main() {
+fn main(rt: HostRuntime) {
     // one byte more than an accepted text can have
     let mut text = [0u8; LONGEST_TEXT + 1];
-    let n = console::read_text(b"tidy", &mut text);
+    let n = console::read_text(&rt, b"tidy", &mut text);
     let mut out = [0u8; LONGEST_TIDY_TEXT];
     let length = tidy_text::tidy(&text[..n], &mut out);
-    console::write_text(b"tidy", &out[..length]);
+    console::write_text(&rt, b"tidy", &out[..length]);
 }
