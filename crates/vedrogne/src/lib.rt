@@ -130,8 +130,7 @@ fn result_out(outcome: Outcome, iterations: &mut u32, reason: &mut u32) -> u32
     }
 }
 
-#[unsafe(no_mangle)]
-pub extern "C" fn vedrogne_decode(
+pub fn vedrogne_decode(
     settings: &[u32],
     mask: &[u8],
     llr: &[i16],
@@ -169,8 +168,7 @@ pub extern "C" fn vedrogne_decode(
 
 // Of the tallies only the radio's five numbers are read and written; where 15 refuses them they are written as they
 // were.
-#[unsafe(no_mangle)]
-pub extern "C" fn vedrogne_decode_radio(
+pub fn vedrogne_decode_radio(
     radio: u32,
     tallies: &mut [u32],
     settings: &[u32],
@@ -220,8 +218,7 @@ pub extern "C" fn vedrogne_decode_radio(
     result_out(outcome, iterations, reason)
 }
 
-#[unsafe(no_mangle)]
-pub extern "C" fn vedrogne_encode(m: u32, mask: &[u8], message: &[u8], block: &mut [u8]) -> u32
+pub fn vedrogne_encode(m: u32, mask: &[u8], message: &[u8], block: &mut [u8]) -> u32
     ensures value { result ≡ encode_number (code_in m) mask.now message.now
         (length block.old) }
     ensures block_after { block.new
@@ -230,8 +227,7 @@ pub extern "C" fn vedrogne_encode(m: u32, mask: &[u8], message: &[u8], block: &m
     calls::number(polar::encode(Code { m: m }, mask, message, block))
 }
 
-#[unsafe(no_mangle)]
-pub extern "C" fn vedrogne_read_out(m: u32, mask: &[u8], bits: &[u8], message: &mut [u8]) -> u32
+pub fn vedrogne_read_out(m: u32, mask: &[u8], bits: &[u8], message: &mut [u8]) -> u32
     ensures value { result ≡ read_out_number (code_in m) mask.now bits.now
         (length message.old) }
     ensures message_after { message.new
@@ -240,8 +236,7 @@ pub extern "C" fn vedrogne_read_out(m: u32, mask: &[u8], bits: &[u8], message: &
     calls::number(polar::read_out(Code { m: m }, mask, bits, message))
 }
 
-#[unsafe(no_mangle)]
-pub extern "C" fn vedrogne_front_gaussian(
+pub fn vedrogne_front_gaussian(
     m: u32,
     ceiling: u32,
     factor: f32,
@@ -256,8 +251,7 @@ pub extern "C" fn vedrogne_front_gaussian(
     calls::number(channel::front(m, ceiling, Channel::Gaussian(factor), samples, llr))
 }
 
-#[unsafe(no_mangle)]
-pub extern "C" fn vedrogne_front_flipping(
+pub fn vedrogne_front_flipping(
     m: u32,
     ceiling: u32,
     weight: f32,
@@ -272,21 +266,14 @@ pub extern "C" fn vedrogne_front_flipping(
     calls::number(channel::front(m, ceiling, Channel::Flipping(weight), samples, llr))
 }
 
-#[unsafe(no_mangle)]
-pub extern "C" fn vedrogne_front_erasing(
-    m: u32,
-    ceiling: u32,
-    samples: &[f32],
-    llr: &mut [i16],
-) -> u32
+pub fn vedrogne_front_erasing(m: u32, ceiling: u32, samples: &[f32], llr: &mut [i16]) -> u32
     ensures value { result ≡ front_number m ceiling Channel.Erasing samples.now (length llr.old) }
     ensures llr_after { llr.new ≡ front_llrs m ceiling Channel.Erasing samples.now llr.old }
 {
     calls::number(channel::front(m, ceiling, Channel::Erasing, samples, llr))
 }
 
-#[unsafe(no_mangle)]
-pub extern "C" fn vedrogne_front_two(
+pub fn vedrogne_front_two(
     m: u32,
     ceiling: u32,
     first_factor: f32,
@@ -307,13 +294,7 @@ pub extern "C" fn vedrogne_front_two(
     calls::number(antennas::front_two(m, ceiling, receiver, first, second, llr))
 }
 
-#[unsafe(no_mangle)]
-pub extern "C" fn vedrogne_read(
-    text: &[u8],
-    settings: &mut [u32],
-    mask: &mut [u8],
-    llr: &mut [i16],
-) -> u32
+pub fn vedrogne_read(text: &[u8], settings: &mut [u32], mask: &mut [u8], llr: &mut [i16]) -> u32
     ensures { ReadCall
         (read_meaning settings.old (block_of mask.old llr.old) text.now)
         settings.old settings.new
@@ -331,8 +312,7 @@ pub extern "C" fn vedrogne_read(
     }
 }
 
-#[unsafe(no_mangle)]
-pub extern "C" fn vedrogne_write(
+pub fn vedrogne_write(
     settings: &[u32],
     mask: &[u8],
     llr: &[i16],
@@ -357,8 +337,7 @@ pub extern "C" fn vedrogne_write(
     }
 }
 
-#[unsafe(no_mangle)]
-pub extern "C" fn vedrogne_report(text: &[u8], out: &mut [u8], written: &mut usize) -> u32
+pub fn vedrogne_report(text: &[u8], out: &mut [u8], written: &mut usize) -> u32
     ensures { TextCall (report_call_number (length out.old)) (report text.now)
         out.old out.new written.old written.new result }
 {
