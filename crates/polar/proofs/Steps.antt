@@ -5,7 +5,7 @@ use mathlib.Core.Bool.{Bool}
 use mathlib.Core.List.{List}
 use native.Mathlib.Numerals.{add-one}
 use native.Mathlib.Omega.{arith}
-use lib.Bits.{bit_xor}
+use lib.Bits.{bit_and, bit_xor}
 use lib.ListN.{length, get_or, set}
 use Rattle.calls.specs.LentMemory.{overwrite, overwrite_from}
 use Rattle.calls.specs.LentMemoryLaws.{
@@ -30,6 +30,7 @@ use Rattle.polar.specs.DigitLaws.{
   Multiple,
   multiple-none,
   multiple-next,
+  mask-clear,
   run-digit,
   run_fits,
   upper_fits,
@@ -100,7 +101,12 @@ module _ {t p : ℕ} {old block : List ℕ} (h : Stepped t p old block) where
     abbrev d : ℕ
     d = 2 ^ t
 
-    -- an upper run
+    -- an upper run, by the code's mask test: it is in the block, and so is its pair
+    pub pair-fits : (e : ℕ) → e ≡ d → bit_and p e ≡ 0 → p + e + e ≤ length block
+    pair-fits e same z =
+        rw same
+        (omega (arith, stepped-length, bits.long, upper_fits t p h.runs m ht hp (mask-clear p t e same z)))
+
     joins : digit t p ≡ 0 → (i : ℕ) → i < d → pair (overwrite p (stepped t old) old) p d i ≡ stepped t old (p + i)
     joins z i l =
         let g = stepped t old in

@@ -8,5 +8,4 @@ pub mod Private
 pub mod CodeLaws
 pub mod DigitLaws
 pub mod BlockLaws
-pub mod CoderLaws
 pub mod Cases

@@ -8,7 +8,7 @@ use Rattle.calls.specs.LentMemory.{overwrite}
 use Rattle.polar.specs.declared.Code.{Code}
 use Rattle.polar.specs.Mask.{is_information}
 use Rattle.polar.specs.Code.{encode_number, encode_block}
-use Rattle.polar.specs.CoderLaws.{encode-again, encode-twice}
+use Rattle.polar.proofs.CoderLaws.{encode-again, encode-twice}
 use Rattle.twice.specs.Twice.{twice_number, twice_second}
 
 module _ (code : Code) (mask message block again : List ℕ) where

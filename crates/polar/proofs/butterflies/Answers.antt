@@ -2,22 +2,20 @@
 use Prim.Native.Nat.{◌≤◌, ◌-◌, ◌+◌, ◌^◌}
 use mathlib.Core.Path.{◌≡◌, ◌∙◌}
 use native.Mathlib.Omega.{arith}
-use Rattle.polar.specs.Columns.{digit}
-use Rattle.polar.specs.DigitLaws.{mask-clear, mask-set, run_fits, upper_fits}
+use borrow.Author.Rules.{rules}
+use Rattle.polar.specs.DigitLaws.{mask-clear, mask-set, run_fits}
 use Rattle.polar.proofs.Sixteens.{distance-sixteens}
-use Rattle.polar.proofs.Steps.{stepped-length, stepped-upper, stepped-lower}
+use Rattle.polar.proofs.Steps.{pair-fits, stepped-upper, stepped-lower}
 use Rattle.polar.proofs.butterflies.Goals as goal
 use Rattle.polar.proofs.butterflies.Goals.{else-p-d-eq0, then-p-d-eq0}
 
 pub join-requires-clause-d_in_bounds : goal.join-requires-clause-d_in_bounds
 join-requires-clause-d_in_bounds c =
-    let pair_fits : digit c.args.t c.loop-p.p ≡ 0 → c.loop-p.p + 2 ^ c.args.t + 2 ^ c.args.t ≤ 2 ^ c.args.m = upper_fits _ _ c.loop-p.invariant.3.runs _ c.requires.m_le_largest_m.1 (omega arith) in
-    let h = c.loop-p.invariant in (omega (arith, c.requires.bits.long, stepped-length h.3, pair_fits (mask-clear _ _ _ h.1 c.if-p-d-eq0.true)))
+    let h = c.loop-p.invariant in
+    search (rules, pair-fits h.3 c.args.m c.requires.m_le_largest_m.1 (omega arith) c.requires.bits _ h.1)
 
 pub join-requires-clause-multiple : goal.join-requires-clause-multiple
-join-requires-clause-multiple c =
-    let pair_fits : digit c.args.t c.loop-p.p ≡ 0 → c.loop-p.p + 2 ^ c.args.t + 2 ^ c.args.t ≤ 2 ^ c.args.m = upper_fits _ _ c.loop-p.invariant.3.runs _ c.requires.m_le_largest_m.1 (omega arith) in
-    let h = c.loop-p.invariant in (distance-sixteens _ _ h.1)
+join-requires-clause-multiple c = distance-sixteens _ _ c.loop-p.invariant.1
 
 pub loop-p-preserved : goal.loop-p-preserved
 loop-p-preserved c =
