@@ -11,14 +11,14 @@ use Rattle.channel.proofs.quantise.Goals.{then-value-top, else-value-top, then-t
 cut-is : (c : Joined-top-most) → cut_at (of_int binary32 (pos c.args.ceiling)) c.args.value ≡ c.if-top-most.cut
 cut-is c =
     let most-is : at_most (of_int binary32 (pos c.args.ceiling)) c.args.value ≡ c.if-value-top.most =
-        elim c.if-value-top.branch [
-        | then-value-top w ↦ rw w.if-value-top.true (sym w.most-is)
-        | else-value-top w ↦ rw w.if-value-top.false (sym w.most-is)
-        ] in
+    elim c.if-value-top.branch [
+      | then-value-top w ↦ rw w.if-value-top.true (sym w.most-is)
+      | else-value-top w ↦ rw w.if-value-top.false (sym w.most-is)
+    ] in
     rw most-is
     (elim c.if-top-most.branch [
-    | then-top-most w ↦ rw w.if-top-most.true (sym w.cut-is)
-    | else-top-most w ↦ rw w.if-top-most.false (sym w.cut-is)
+      | then-top-most w ↦ rw w.if-top-most.true (sym w.cut-is)
+      | else-top-most w ↦ rw w.if-top-most.false (sym w.cut-is)
     ])
 
 well : (c : Joined-top-most) → CutWell c.args.ceiling c.args.value c.if-top-most.cut
