@@ -7,7 +7,6 @@ use lib.ListN.{get_or}
 use lib.Ieee.{nan}
 use mir.Syntax.{w16}
 use mir.Val.{to_z, of_z}
-use mir.Facts.{to_z-of_z}
 use borrow.Author.Rules.{rules}
 use Rattle.calls.specs.LentMemoryLaws.{overwrite-store}
 use Rattle.channel.specs.Private.{by_sign}
