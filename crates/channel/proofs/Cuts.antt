@@ -117,3 +117,11 @@ cut-at-ceiling C x low high h = by-top (of_int binary32 (pos C)) (top-value C hi
     by-top (inf s) v = absurd v
     by-top (fin true n d) v = absurd (true≢false v.0)
     by-top (fin false n d) v = cut-well C n d low high (sym (mul-one (n * up d)) ∙ v.1) x h
+
+-- the two packed steps, each by its result
+pub cut-steps : (C : ℕ) (x most cut : Float) → 1 ≤ C → C ≤ largest_ceiling → T (not (is_nan x))
+    → at_most (of_int binary32 (pos C)) x ≡ most
+    → cond (lt (neg (of_int binary32 (pos C))) most) most (neg (of_int binary32 (pos C))) ≡ cut
+    → CutWell C x cut
+cut-steps C x most cut low high h first second =
+    rw second at (rw first at (cut-at-ceiling C x low high h))

@@ -2,7 +2,7 @@
 -- tested; `nearest` is the nearest whole number; an LLR is no larger than the ceiling and odd in its sample; samples
 -- flipped at some places give the same number and the LLRs flipped at those places.
 use Rattle.std.specs.Prelude.{ℕ, zero, suc, ◌+◌, ◌*◌, ◌/◌, ◌^◌, ◌≤◌, ◌<◌, ◌≡◌, refl, Bool, true, false, not, cond, List, [], ◌∷◌, leb, ltb, eqb, ℤ, pos, negsuc, neg_ℤ, nat_abs, length, get_or, Float}
-use Rattle.std.proofs.Common.{zero-le, sym, ap, ap₂, ◌∙◌, le_refl, mul-pos, zero-lt-suc, not-suc-le-zero, le_of_suc-le-suc, div-lt_iff_lt-mul, le-div_iff_mul-le, add-one, arith, leb-true, leb-false, le-leb}
+use Rattle.std.proofs.Common.{zero-le, sym, ap, ap₂, ◌∙◌, le_refl, le_trans, mul-pos, zero-lt-suc, not-suc-le-zero, le_of_suc-le-suc, div-lt_iff_lt-mul, le-div_iff_mul-le, add-one, arith, leb-true, leb-false, le-leb}
 use Rattle.std.proofs.Math.Nat.{mul-div-le, lt-mul-div-succ}
 use Rattle.std.proofs.Math.IntN.{neg_ℤ-neg_ℤ}
 use Rattle.std.specs.Int.Signed.{mag}
@@ -79,7 +79,10 @@ rounded-bound C n d h = by-test (leb (C * d) n) refl
     by-test : (b : Bool) → leb (C * d) n ≡ b → cond b C (nearest n d) ≤ C
     by-test true e = le_refl C
     by-test false e =
-        le_of_suc-le-suc ((div-lt_iff_lt-mul {k = 2 * d} (mul-pos (zero-lt-suc 1) h)).1 (below (leb-false (C * d) n e)))
+        let up : nearest n d ≤ (2 * n + d) / (2 * d) = omega arith in
+        let least : (2 * n + d) / (2 * d) ≤ C =
+        le_of_suc-le-suc ((div-lt_iff_lt-mul {k = 2 * d} (mul-pos (zero-lt-suc 1) h)).1 (below (leb-false (C * d) n e))) in
+        le_trans up least
 
 -- whether the size reaches the ceiling, and its whole number, depend only on the value of the fraction
 pub reaches : (C n d : ℕ) → 0 < d → leb (C * d) n ≡ leb C (n / d)
@@ -107,7 +110,13 @@ unfolding quantised
 quantised-of C nan s a c h v = absurd v
 quantised-of C (inf t) s a c h v = absurd v
 quantised-of C (fin t m e) s a c h v =
-    ap₂ (λ (t : Bool) (n : ℕ). flipped t (pos n)) v.0 (rounded-same C (m * up e) (down e) a c (down_pos e) h v.1)
+    ap₂ (λ (t : Bool) (n : ℕ). flipped t (pos n)) v.0
+    (ap₂ (λ (b : Bool) (n : ℕ). cond b C n)
+    (reaches C (m * up e) (down e) (down_pos e) ∙ ap (leb C) (div_same (m * up e) (down e) a c (down_pos e) h v.1)
+    ∙ sym (reaches C a c h))
+    (div_same (2 * (m * up e) + down e) (2 * down e) (2 * a + c) (2 * c) (mul-pos (zero-lt-suc 1) (down_pos e))
+    (mul-pos (zero-lt-suc 1) h)
+    (let g : m * up e * c ≡ a * down e = v.1 in omega arith)))
 
 -- ---- no LLR is larger than the ceiling
 
@@ -257,7 +266,7 @@ pub front-llrs-flipped : (m C : ℕ) (channel : Channel) (bit : ℕ → Bool) (s
     (overwrite (2 ^ m) (λ i. flipped (bit i) (llr_of C channel (get_or samples i nan))) old) old
 front-llrs-flipped m C channel bit samples old =
     ap₂ (λ (number : ℕ) (new : List ℤ). unless_refused number new old)
-    (front-number-flipped m C channel bit samples (length old))
+    (simp (length-overwrite, all-flipped (2 ^ m) (2 ^ m) bit samples (le_refl (2 ^ m))))
     (overwrite-same (2 ^ m) (λ i. llr_of C channel (get_or (flipped_samples (2 ^ m) bit samples) i nan))
     (λ i. flipped (bit i) (llr_of C channel (get_or samples i nan))) old
     (λ i h k. llr-at-flipped (2 ^ m) C channel bit samples i h))
