@@ -1,3 +1,1 @@
-pub mod Values
-pub mod Turns
 pub mod Matrix

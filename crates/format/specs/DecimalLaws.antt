@@ -105,9 +105,15 @@ behind-drop zs j = split (ltb j (length zs)) refl
 -- what stands from the i-th value of a line on: the value, the byte b behind it, and the rest
 pub line-next : (zs : List ℤ) (i b : ℕ) → i < length zs → b ≡ cond (ltb (i + 1) (length zs)) 32 10 →
     line (drop i zs) ≡ shown (get_or zs i (pos 0)) ++ (b ∷ []) ++ line (drop (i + 1) zs)
+unfolding line
 line-next zs i b h e =
     rw (e ∙ behind-drop zs (i + 1), add-one i, drop-cons zs i (pos 0) h)
-    (line-cons (get_or zs i (pos 0)) (drop (suc i) zs))
+    (cons (get_or zs i (pos 0)) (drop (suc i) zs))
+  where
+    -- `line-cons` again: each law stands by itself, so that each says by itself where a definition breaks it
+    cons : (z : ℤ) (zs : List ℤ) → line (z ∷ zs) ≡ shown z ++ (behind zs ∷ []) ++ line zs
+    cons z [] = sym (append-nil (shown z ++ (10 ∷ [])))
+    cons z (y ∷ zs) = sym (append_assoc (shown z) (32 ∷ []) (line (y ∷ zs)))
 
 -- behind the last value nothing is left
 pub line-ends : (zs : List ℤ) (i : ℕ) → length zs ≤ i → line (drop i zs) ≡ []

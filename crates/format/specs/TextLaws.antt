@@ -1,11 +1,11 @@
 -- Laws of the texts: the lines of positions one by one, and how long they and the text of a refusal are at most.
-use Rattle.std.specs.Prelude.{ℕ, zero, suc, ◌+◌, ◌-◌, ◌*◌, ◌≤◌, ◌<◌, ◌≡◌, refl, List, [], ◌∷◌, ◌++◌, ℤ, pos, length}
+use Rattle.std.specs.Prelude.{ℕ, zero, suc, ◌+◌, ◌-◌, ◌*◌, ◌≤◌, ◌<◌, ◌≡◌, refl, List, [], ◌++◌, ℤ, pos, length}
 use Rattle.std.proofs.Common.{ap, ap₂, mul-suc, add-one, arith, length-append}
 use Rattle.calls.specs.declared.Refusal.{Refusal}
 use Rattle.calls.specs.Numbers.{refusal_number}
 use Rattle.calls.specs.NumberLaws.{refusal-digits}
-use Rattle.format.specs.Decimal.{line}
-use Rattle.format.specs.DecimalLaws.{line-length}
+use Rattle.format.specs.Decimal.{shown, line}
+use Rattle.format.specs.DecimalLaws.{length_last, shown-length}
 use Rattle.format.specs.Texts.{position_lines, refusal_text}
 
 -- ---- the lines of the positions
@@ -49,5 +49,7 @@ position-lines-length most values (suc n) p short =
 
 -- at most 14 bytes, as no number has more than two digits
 pub refusal-length : (r : Refusal) → length (refusal_text (refusal_number r)) ≤ 14
-unfolding refusal_text
-refusal-length r = omega (arith, line-length (pos (refusal_number r) ∷ []) (omega (arith, refusal-digits r)))
+unfolding refusal_text line
+refusal-length r =
+    let n = pos (refusal_number r) in
+    omega (arith, length_last (shown n) 10, shown-length n (omega (arith, refusal-digits r)))

@@ -1,6 +1,6 @@
 -- Request 2026-07: the limits T that a call may have. The request's numbers stand here written out.
-use Rattle.std.specs.Prelude.{ℕ, zero, suc, ◌≤◌, ◌≡◌, refl, Bool, true, false, cond, List, ℤ}
-use Rattle.std.proofs.Common.{sym, ap, ◌∙◌, arith, le-leb}
+use Rattle.std.specs.Prelude.{ℕ, zero, suc, ◌≤◌, ◌≡◌, refl, Bool, true, false, List, ℤ}
+use Rattle.std.proofs.Common.{arith, le-leb}
 use Rattle.calls.specs.Bounds.{largest_m, largest_ceiling, largest_scale}
 use Rattle.calls.specs.Numbers.{check, first_refusal, between}
 use Rattle.settings.specs.declared.Settings.{Settings}
@@ -40,7 +40,4 @@ module _ (s : Settings) (mask : List ℕ) (llr : List ℤ) (lengths : Lengths) w
       by-limit : (T : ℕ) → T ≤ 64
           → decode_number (with_limit T s) mask llr lengths ≡ old_decode_number (with_limit T s) mask llr lengths
       by-limit zero h = refl
-      by-limit (suc T) h =
-          limit-within (suc T) 1 (positive-within 64 T h) refl
-          ∙ sym (ap (λ (test : Bool). decode_number (with_limit (cond test 1 0) s) mask llr lengths)
-          (positive-within 200 T (omega arith)))
+      by-limit (suc T) h = rw (positive-within 64 T h, positive-within 200 T (omega arith))
