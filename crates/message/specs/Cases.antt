@@ -1,5 +1,5 @@
 -- The message arithmetic at chosen cases, by computing: results beside what is expected. `negsuc n` is -(n + 1).
-use Rattle.std.specs.Prelude.{ℕ, ◌≡◌, refl, [], ◌∷◌, ℤ, pos, negsuc, ◌*ℤ◌}
+use Rattle.std.specs.Prelude.{ℕ, ◌≡◌, refl, [], ◌∷◌, pos, negsuc, ◌*ℤ◌}
 use Rattle.std.specs.Int.Signed.{shr_z}
 use Rattle.message.specs.Message.{add, f}
 use Rattle.message.specs.MessageLaws.{f_by_cases}
