@@ -1,0 +1,9 @@
+-- `arrays::gather` meets its contract.
+use Prim.Native.Nat.{◌-◌}
+use native.Mathlib.Omega.{arith}
+use borrow.Author.Rules.{rules}
+use Rattle.sweeps.proofs.Parts.{array-next}
+use Rattle.sweeps.proofs.arrays.gather.Goals as goal
+
+pub loop-i-preserved : goal.loop-i-preserved
+loop-i-preserved c = (omega arith, array-next c.loop-i.invariant.1 (omega arith) (search rules))

@@ -1,0 +1,13 @@
+use Prim.Native.Nat.{◌≤◌, ◌-◌}
+use Rattle.sweeps.specs.Private.{upper_at, lower_at}
+use Rattle.sweeps.proofs.Merged.{upper_of, GatheredPairs}
+use Rattle.sweeps.proofs.Parts.{ArrayPart}
+use Rattle.sweeps.proofs.chunks.chunk_2.Given as goal
+
+abbrev pub invariant-loop-i : goal.invariant-loop-i
+invariant-loop-i l = (l.i ≤ 8) × GatheredPairs l.rule 2 l.x l.y l.work l.x_upper l.x_lower l.y_upper l.y_lower
+    × ArrayPart l.i (λ j. upper_at l.rule 2 l.x l.y l.work (upper_of 2 j)) l.upper
+    × ArrayPart l.i (λ j. lower_at l.rule 2 l.x l.y l.work (upper_of 2 j)) l.lower
+
+abbrev pub decreases-loop-i : goal.decreases-loop-i
+decreases-loop-i l = 8 - l.i
