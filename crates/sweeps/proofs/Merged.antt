@@ -1,6 +1,6 @@
 -- Eight pairs out of sixteen positions, and back: where their messages are gathered from, and merged in the order of
 -- the positions.
-use Prim.Native.Nat.{ℕ, ◌+◌, ◌-◌, ◌*◌, ◌/◌, ◌^◌, ◌≤◌, ◌<◌}
+use Prim.Native.Nat.{ℕ, ◌+◌, ◌-◌, ◌^◌, ◌≤◌, ◌<◌}
 use mathlib.Core.Path.{◌≡◌, refl, sym, ap, ◌∙◌}
 use mathlib.Core.Bool.{Bool, true, false, ◌&&◌, true≢false}
 use mathlib.Core.List.{List}
@@ -13,7 +13,6 @@ use lib.Pow.{pow_pos}
 use borrow.Author.Tests.{eq-eqb, ne_eqb, ltb-true, eqb-true}
 use Rattle.calls.specs.Every.{every}
 use Rattle.calls.specs.EveryLaws.{every-at}
-use Rattle.polar.specs.Columns.{digit}
 use Rattle.polar.specs.DigitLaws.{digit-cases}
 use Rattle.message.specs.declared.MinSum.{MinSum}
 use Rattle.message.specs.Message.{add, f}

@@ -1,14 +1,13 @@
 -- The places of the code and the positions of a row: the formulas at the places of a part of the rows are those of the
 -- rows, and what they read lies in the workspace.
 use Prim.Native.Nat.{ℕ, suc, ◌+◌, ◌-◌, ◌*◌, ◌^◌, ◌≤◌, ◌<◌}
-use mathlib.Core.Path.{◌≡◌, refl, sym, ap, subst, ◌∙◌}
+use mathlib.Core.Path.{◌≡◌, refl, ◌∙◌}
 use mathlib.Core.List.{List}
 use native.Mathlib.Nat.{zero-mul, one-mul, suc-mul, mul-le-mul_right}
 use native.Mathlib.Omega.{arith}
 use lib.Bits.{bit_and, bit_xor, xor_add_and}
 use lib.Dec.{eqb}
 use lib.IntN.{ℤ, nat_abs}
-use lib.ListN.{length}
 use lib.Pow.{pow_pos, pow-lt}
 use borrow.Author.Tests.{eq-eqb, ne_eqb}
 use mir.Syntax.{w16}

@@ -7,7 +7,7 @@ use native.Mathlib.Decide.{dec_lt}
 use native.Mathlib.Omega.{arith}
 use lib.IntN.{ℤ}
 use lib.ListN.{length}
-use lib.Pow.{pow_pos, pow_mono}
+use lib.Pow.{pow_pos}
 use Rattle.calls.specs.LentMemory.{overwrite_from}
 use Rattle.polar.specs.Columns.{digit}
 use Rattle.polar.specs.DigitLaws.{Multiple, multiple-none, digit-cases, weight-le, run_fits, partner-lt}
@@ -28,7 +28,7 @@ use Rattle.sweeps.specs.Private.{
   Rows,
 }
 use Rattle.sweeps.proofs.Digits.{same-digit, after-upper, after_lower, digit-behind}
-use Rattle.sweeps.proofs.Filled.{wanted, Filled, filled_none, still-wanted, filled-run, filled-all}
+use Rattle.sweeps.proofs.Filled.{Filled, filled_none, still-wanted, filled-run, filled-all}
 use Rattle.sweeps.proofs.Places.{upper-joined, lower-joined, new-joined, readable}
 
 -- ---- c positions from p on, in any state of the step

@@ -1,5 +1,4 @@
 -- `left_sweep` meets its contract: t steps are done.
-use Prim.Native.Nat.{◌-◌}
 use native.Mathlib.Omega.{arith}
 use Rattle.sweeps.specs.IterationLaws.{valid-left}
 use Rattle.sweeps.proofs.Steps.{left-next}

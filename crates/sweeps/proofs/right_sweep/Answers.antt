@@ -1,5 +1,4 @@
 -- `right_sweep` meets its contract: t steps are done.
-use Prim.Native.Nat.{◌-◌}
 use native.Mathlib.Omega.{arith}
 use Rattle.sweeps.specs.IterationLaws.{valid-right}
 use Rattle.sweeps.proofs.Steps.{right-next}

@@ -1,5 +1,5 @@
 -- `set_llr` meets its contract.
-use Prim.Native.Nat.{ℕ, ◌-◌, ◌+◌, ◌*◌, zero-le}
+use Prim.Native.Nat.{ℕ, ◌+◌, ◌*◌, zero-le}
 use mathlib.Core.Path.{◌≡◌, sym, subst}
 use native.Mathlib.Omega.{arith}
 use borrow.Author.Rules.{rules}

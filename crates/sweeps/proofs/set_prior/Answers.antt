@@ -1,5 +1,5 @@
 -- `set_prior` meets its contract.
-use Prim.Native.Nat.{ℕ, ◌-◌, ◌+◌, ◌*◌, zero-le}
+use Prim.Native.Nat.{ℕ, ◌+◌, ◌*◌, zero-le}
 use mathlib.Core.Path.{sym, subst, ◌∙◌}
 use native.Mathlib.Nat.{add-zero}
 use native.Mathlib.Omega.{arith}

@@ -1,5 +1,4 @@
 -- `arrays::gather` meets its contract.
-use Prim.Native.Nat.{◌-◌}
 use native.Mathlib.Omega.{arith}
 use borrow.Author.Rules.{rules}
 use Rattle.sweeps.proofs.Parts.{array-next}

@@ -1,5 +1,4 @@
 -- `arrays::mask_table` meets its contract.
-use Prim.Native.Nat.{◌-◌}
 use native.Mathlib.Omega.{arith}
 use lib.Bits.{and_le_l}
 use mir.Facts.{to_z_pos}

@@ -1,5 +1,5 @@
 -- `chunks::by_chunks` meets its contract: the messages of the first p positions are new.
-use Prim.Native.Nat.{ℕ, suc, ◌≤◌, ◌-◌, ◌+◌, ◌^◌}
+use Prim.Native.Nat.{ℕ, suc, ◌≤◌, ◌+◌, ◌^◌}
 use mathlib.Core.Path.{◌≡◌, refl, ap, subst, ◌∙◌}
 use native.Mathlib.Omega.{arith}
 use Rattle.polar.specs.DigitLaws.{Multiple, multiple-next}

@@ -1,10 +1,10 @@
 -- `chunks::chunk_4` meets its contract: the first i of both eights are computed.
-use Prim.Native.Nat.{◌<◌, ◌-◌}
+use Prim.Native.Nat.{◌<◌}
 use mathlib.Core.Path.{◌∙◌}
 use native.Mathlib.Omega.{arith}
 use Rattle.calls.proofs.Signed.{told}
 use Rattle.sweeps.specs.Private.{new_at, new_run}
-use Rattle.sweeps.proofs.Merged.{upper_of, of-pairs-4, merged-new, pair-upper, pair-lower}
+use Rattle.sweeps.proofs.Merged.{of-pairs-4, merged-new, pair-upper, pair-lower}
 use Rattle.sweeps.proofs.Parts.{array-next, array_at, overwrite_from-same}
 use Rattle.sweeps.proofs.chunks.chunk_4.Goals as goal
 

@@ -1,5 +1,5 @@
 -- `eights::by_eights` meets its contract: the upper positions below p are done, and their partners.
-use Prim.Native.Nat.{◌≤◌, ◌-◌, ◌+◌, ◌^◌, zero-le}
+use Prim.Native.Nat.{◌≤◌, ◌+◌, ◌^◌, zero-le}
 use mathlib.Core.Path.{refl, ◌∙◌}
 use native.Mathlib.Omega.{arith}
 use lib.Pow.{pow_mono}
@@ -28,13 +28,13 @@ pub join_eight-requires-clause-readable_run : goal.join_eight-requires-clause-re
 join_eight-requires-clause-readable_run c =
     let h = c.loop-p.invariant in
     (pairs-ready h.0 h.1 3 c.loop-p.p c.requires.le_t h.4 (omega arith) c.requires.rows h.5
-    (mask-clear _ _ _ h.1 c.if-p-d-eq0.true)).1
+    (mask-clear _ _ _ h.1 c.if-p-d-eq0.true)).1.0
 
 pub join_eight-requires-clause-d_in_bounds : goal.join_eight-requires-clause-d_in_bounds
 join_eight-requires-clause-d_in_bounds c =
     let h = c.loop-p.invariant in
     (pairs-ready h.0 h.1 3 c.loop-p.p c.requires.le_t h.4 (omega arith) c.requires.rows h.5
-    (mask-clear _ _ _ h.1 c.if-p-d-eq0.true)).2
+    (mask-clear _ _ _ h.1 c.if-p-d-eq0.true)).1.1
 
 pub loop-p-preserved : goal.loop-p-preserved
 loop-p-preserved c =

@@ -1,5 +1,5 @@
 -- `eights::join_eight` meets its contract: the first i of both eights are computed.
-use Prim.Native.Nat.{◌-◌, ◌+◌}
+use Prim.Native.Nat.{◌+◌}
 use mathlib.Core.Path.{ap, ◌∙◌}
 use native.Mathlib.Omega.{arith}
 use Rattle.calls.specs.LentMemory.{overwrite_from}

@@ -1,5 +1,4 @@
 -- `neighbours::eight_beside` meets its contract.
-use Prim.Native.Nat.{◌-◌}
 use native.Mathlib.Omega.{arith}
 use Rattle.calls.proofs.Signed.{told}
 use Rattle.sweeps.proofs.Parts.{array-next}

@@ -1,5 +1,4 @@
 -- `octets::octet_1` meets its contract.
-use Prim.Native.Nat.{◌-◌}
 use mathlib.Core.Path.{◌∙◌}
 use native.Mathlib.Omega.{arith}
 use Rattle.calls.proofs.Signed.{told}

@@ -1,5 +1,5 @@
 -- `pairs::by_pairs` meets its contract: the upper positions below p are done, and their partners.
-use Prim.Native.Nat.{◌≤◌, ◌-◌, ◌+◌, ◌^◌, zero-le}
+use Prim.Native.Nat.{◌≤◌, ◌+◌, ◌^◌, zero-le}
 use mathlib.Core.Path.{◌∙◌}
 use native.Mathlib.Omega.{arith}
 use lib.Pow.{pow_mono}
@@ -18,7 +18,7 @@ pub join_pair-requires-clause-readable_run : goal.join_pair-requires-clause-read
 join_pair-requires-clause-readable_run c =
     let h = c.loop-p.invariant in
     (pairs-ready h.0 h.1 0 c.loop-p.p zero-le h.4 (omega arith) c.requires.rows h.5
-    (mask-clear _ _ _ h.1 c.if-p-d-eq0.true)).1
+    (mask-clear _ _ _ h.1 c.if-p-d-eq0.true)).1.0
 
 pub loop-p-preserved : goal.loop-p-preserved
 loop-p-preserved c =
