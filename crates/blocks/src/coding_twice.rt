@@ -6,7 +6,10 @@ use polar::Code;
 fn encode_twice(rt: &HostRuntime, message: &[u8], block: &mut [u8], again: &mut [u8]) {
     let mask = [0u8; 8];
     say::handed(rt, b"encode twice m=", 3, &mask, b" message", message);
-    console::answer(rt, twice::encode_twice(Code { m: 3 }, &mask, message, block, again));
+    console::answer(
+        rt,
+        twice::encode_twice(Code { m: 3 }, &mask, message, block, again),
+    );
     console::bytes(rt, b" block", block);
     say::lent(rt, b" again", again);
 }

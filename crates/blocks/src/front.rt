@@ -3,7 +3,14 @@
 use channel::Channel;
 
 // One call of the front, on the samples that the line has named: m and C, the answer, and the LLRs afterwards.
-fn front(rt: &HostRuntime, m: u32, ceiling: u32, channel: Channel, samples: &[f32], llr: &mut [i16]) {
+fn front(
+    rt: &HostRuntime,
+    m: u32,
+    ceiling: u32,
+    channel: Channel,
+    samples: &[f32],
+    llr: &mut [i16],
+) {
     console::number(rt, b" m=", m);
     console::number(rt, b" C=", ceiling);
     console::answer(rt, channel::front(m, ceiling, channel, samples, llr));
@@ -25,7 +32,10 @@ pub fn gaussian(rt: &HostRuntime) {
     let mut paper = [9i16; 3];
     front(rt, 1, 31, Channel::Gaussian(1.5), &[1.0, -1.0], &mut paper);
     let halves = [0.5f32, -0.5, 2.5, -2.5, 0.0, -0.0, 30.5, 0.499];
-    console::text(rt, b"front gaussian 1 samples 0.5 -0.5 2.5 -2.5 0 -0 30.5 0.499");
+    console::text(
+        rt,
+        b"front gaussian 1 samples 0.5 -0.5 2.5 -2.5 0 -0 30.5 0.499",
+    );
     let mut half = [9i16; 8];
     front(rt, 3, 31, Channel::Gaussian(1.0), &halves, &mut half);
 }
@@ -54,7 +64,14 @@ pub fn refused_settings(rt: &HostRuntime) {
     erasing(rt, 1, 0);
     console::text(rt, b"front gaussian 0 samples 1 -1 1");
     let mut llr = [9i16; 4];
-    front(rt, 2, 31, Channel::Gaussian(0.0), &[1.0, -1.0, 1.0], &mut llr);
+    front(
+        rt,
+        2,
+        31,
+        Channel::Gaussian(0.0),
+        &[1.0, -1.0, 1.0],
+        &mut llr,
+    );
 }
 
 // 11, a factor that is not above zero, with a sample that is not finite either; then that sample alone, 12.

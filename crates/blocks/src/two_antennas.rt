@@ -4,7 +4,8 @@ use crate::front;
 use antennas::Receiver;
 
 // One call of the front, on the samples that the line has named: m and C, the answer, and the LLRs afterwards.
-fn front_two(rt: &HostRuntime, 
+fn front_two(
+    rt: &HostRuntime,
     m: u32,
     ceiling: u32,
     receiver: Receiver,
@@ -14,7 +15,10 @@ fn front_two(rt: &HostRuntime,
 ) {
     console::number(rt, b" m=", m);
     console::number(rt, b" C=", ceiling);
-    console::answer(rt, antennas::front_two(m, ceiling, receiver, first, second, llr));
+    console::answer(
+        rt,
+        antennas::front_two(m, ceiling, receiver, first, second, llr),
+    );
     console::values(rt, b" llr", llr);
     console::text(rt, b"\n");
 }
@@ -30,9 +34,13 @@ fn plain() -> Receiver {
 pub fn sums(rt: &HostRuntime) {
     let first = [1.0f32, 0.0, 0.25, -0.25, front::not_a_number()];
     let second = [0.0f32, -1.0, 0.125, -0.125];
-    console::text(rt, b"front_two 1 2 samples 1 0 0.25 -0.25 (nan), 0 -1 0.125 -0.125");
+    console::text(
+        rt,
+        b"front_two 1 2 samples 1 0 0.25 -0.25 (nan), 0 -1 0.125 -0.125",
+    );
     let mut llr = [9i16; 5];
-    front_two(rt, 
+    front_two(
+        rt,
         2,
         31,
         Receiver {
@@ -47,7 +55,10 @@ pub fn sums(rt: &HostRuntime) {
 
 // Products are cut at 4096 before they are added, also those too large for the format: opposite ones give 0.
 pub fn cuts(rt: &HostRuntime) {
-    console::text(rt, b"front_two 1 1 samples 100000 3000 -100000 100000, -4095 -2990 1 -100000");
+    console::text(
+        rt,
+        b"front_two 1 1 samples 100000 3000 -100000 100000, -4095 -2990 1 -100000",
+    );
     let first = [100000.0f32, 3000.0, -100000.0, 100000.0];
     let second = [-4095.0f32, -2990.0, 1.0, -100000.0];
     let mut llr = [9i16; 4];
@@ -58,7 +69,8 @@ pub fn cuts(rt: &HostRuntime) {
         second: 3.0e38,
     };
     let mut over = [9i16; 2];
-    front_two(rt, 
+    front_two(
+        rt,
         1,
         31,
         largest,
@@ -77,7 +89,8 @@ pub fn refused(rt: &HostRuntime) {
     console::text(rt, b"front_two 1 1 samples 1 1, 1 inf");
     front_two(rt, 1, 2048, plain(), &[1.0, 1.0], &infinite, &mut llr);
     console::text(rt, b"front_two 1 0 samples 1 1, 1");
-    front_two(rt, 
+    front_two(
+        rt,
         1,
         31,
         Receiver {
@@ -89,7 +102,8 @@ pub fn refused(rt: &HostRuntime) {
         &mut llr,
     );
     console::text(rt, b"front_two 1 0 samples 1 1, 1 inf");
-    front_two(rt, 
+    front_two(
+        rt,
         1,
         31,
         Receiver {
