@@ -18,6 +18,7 @@ use Rattle.antennas.specs.FrontTwo.{
   cut_to,
   llr_of_two,
   Branches,
+  branches,
   llr_at,
   front_two_number,
   front_two_llrs,
@@ -41,38 +42,59 @@ product-neg : (x factor : Float) → product (neg x) factor ≡ neg (product x f
 product-neg x factor =
     ap (cut_to largest_product) (mul-neg binary32 x factor) ∙ cut-neg (mul binary32 x factor)
 
+-- of any two factors
+both-negated : (C : ℕ) (f g x y : Float)
+    → quantised C (add binary32 (product (neg x) f) (product (neg y) g))
+    ≡ neg_ℤ (quantised C (add binary32 (product x f) (product y g)))
+both-negated C f g x y =
+    ap₂ (λ (a b : Float). quantised C (add binary32 a b)) (product-neg x f) (product-neg y g)
+    ∙ add-odd C (product x f) (product y g)
+
 pub llr-of-two-odd : (C : ℕ) (receiver : Receiver) (x y : Float)
     → llr_of_two C receiver (neg x) (neg y) ≡ neg_ℤ (llr_of_two C receiver x y)
-llr-of-two-odd C receiver x y =
-    ap₂ (λ (a b : Float). quantised C (add binary32 a b)) (product-neg x receiver.first)
-    (product-neg y receiver.second)
-    ∙ add-odd C (product x receiver.first) (product y receiver.second)
+llr-of-two-odd C receiver x y = both-negated C receiver.first receiver.second x y
 
 -- ---- the branches exchanged
 
+-- of any two factors, and of two lists of samples: the same LLR, the same number, and the same LLR slice
+llr-swapped : (C : ℕ) (f g x y : Float)
+    → llr_of_two C (record { first = g; second = f }) y x ≡ llr_of_two C (record { first = f; second = g }) x y
+llr-swapped C f g x y = ap (quantised C) (add-exchanged binary32 (product y g) (product x f))
+
+pub number-swapped : (m C : ℕ) (f g : Float) (xs ys : List Float) (room : ℕ)
+    → front_two_number m C (record { first = g; second = f }) (branches ys xs) room
+    ≡ front_two_number m C (record { first = f; second = g }) (branches xs ys) room
+number-swapped m C f g xs ys room =
+    simp (
+      and_comm (leb (2 ^ m) (length ys)) (leb (2 ^ m) (length xs)),
+      and_comm (is_above_zero g) (is_above_zero f),
+      and_comm (all_finite (2 ^ m) ys) (all_finite (2 ^ m) xs),
+    )
+
+pub llrs-swapped : (m C : ℕ) (f g : Float) (xs ys : List Float) (old : List ℤ)
+    → front_two_llrs m C (record { first = g; second = f }) (branches ys xs) old
+    ≡ front_two_llrs m C (record { first = f; second = g }) (branches xs ys) old
+llrs-swapped m C f g xs ys old =
+    ap₂ (λ (number : ℕ) (new : List ℤ). unless_refused number new old)
+    (number-swapped m C f g xs ys (length old))
+    (overwrite-same (2 ^ m) _ (llr_at C (record { first = f; second = g }) (branches xs ys)) old
+    (λ i h k. llr-swapped C f g (get_or xs i nan) (get_or ys i nan)))
+
 pub llr-of-two-exchanged : (C : ℕ) (receiver : Receiver) (x y : Float)
     → llr_of_two C (exchanged receiver) y x ≡ llr_of_two C receiver x y
-llr-of-two-exchanged C receiver x y =
-    ap (quantised C) (add-exchanged binary32 (product y receiver.second) (product x receiver.first))
+llr-of-two-exchanged C receiver x y = llr-swapped C receiver.first receiver.second x y
 
--- of whole calls: the same number, and the same LLR slice
+-- of whole calls
 pub number-exchanged : (m C : ℕ) (receiver : Receiver) (samples : Branches) (room : ℕ)
     → front_two_number m C (exchanged receiver) (exchanged_branches samples) room
     ≡ front_two_number m C receiver samples room
 number-exchanged m C receiver samples room =
-    simp (
-      and_comm (leb (2 ^ m) (length samples.second)) (leb (2 ^ m) (length samples.first)),
-      and_comm (is_above_zero receiver.second) (is_above_zero receiver.first),
-      and_comm (all_finite (2 ^ m) samples.second) (all_finite (2 ^ m) samples.first),
-    )
+    number-swapped m C receiver.first receiver.second samples.first samples.second room
 
 pub llrs-exchanged : (m C : ℕ) (receiver : Receiver) (samples : Branches) (old : List ℤ)
     → front_two_llrs m C (exchanged receiver) (exchanged_branches samples) old ≡ front_two_llrs m C receiver samples old
 llrs-exchanged m C receiver samples old =
-    ap₂ (λ (number : ℕ) (new : List ℤ). unless_refused number new old)
-    (number-exchanged m C receiver samples (length old))
-    (overwrite-same (2 ^ m) _ (llr_at C receiver samples) old
-    (λ i h k. llr-of-two-exchanged C receiver (get_or samples.first i nan) (get_or samples.second i nan)))
+    llrs-swapped m C receiver.first receiver.second samples.first samples.second old
 
 -- ---- opposite products
 
@@ -112,7 +134,7 @@ opposite-overflow C receiver x y s p q =
 
 llr-of-two-flipped : (C : ℕ) (receiver : Receiver) (b : Bool) (x y : Float)
     → llr_of_two C receiver (flipped_sample b x) (flipped_sample b y) ≡ flipped b (llr_of_two C receiver x y)
-llr-of-two-flipped C receiver true x y = llr-of-two-odd C receiver x y
+llr-of-two-flipped C receiver true x y = both-negated C receiver.first receiver.second x y
 llr-of-two-flipped C receiver false x y = refl
 
 -- the number of the answer stays

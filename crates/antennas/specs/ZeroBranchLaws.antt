@@ -23,14 +23,15 @@ use Rattle.antennas.specs.FrontTwo.{
   cut_to,
   llr_of_two,
   Branches,
+  branches,
   llr_at,
   front_two_number,
   front_two_llrs,
 }
-use Rattle.antennas.specs.RelatedCalls.{exchanged, exchanged_branches, all_zero}
+use Rattle.antennas.specs.RelatedCalls.{all_zero}
 use Rattle.antennas.specs.SumLaws.{round-zero, add-with-zero}
 use Rattle.antennas.specs.CutLaws.{cut_size, cut-is, cut_fits, quantised-cut}
-use Rattle.antennas.specs.FrontTwoLaws.{product, llrs-exchanged, number-exchanged}
+use Rattle.antennas.specs.FrontTwoLaws.{product, llrs-swapped, number-swapped}
 
 -- ---- a zero in the second branch
 
@@ -90,12 +91,10 @@ llr-with-zero C receiver x y h usable z =
     ∙ add-with-zero C (cut_size p) none.0 (cut_fits p (mul-fits binary32 x receiver.first))
     ∙ quantised-cut C p h
 
--- of whole calls
-module _ (m C : ℕ) (receiver : Receiver) (samples : Branches) (usable : is_above_zero receiver.second ≡ true)
-    (zeros : all_zero (2 ^ m) samples.second ≡ true) where
-  zero-at : (i : ℕ) → i < 2 ^ m → eq (get_or samples.second i nan) (fin false 0 (pos 0)) ≡ true
-  zero-at i h = every-at (2 ^ m) i (λ j. eq (get_or samples.second j nan) (fin false 0 (pos 0))) zeros h
+-- ---- of whole calls, with a zero at each of the second branch's first 2^m places
 
+module _ (m C : ℕ) (receiver : Receiver) (samples : Branches) (above : is_above_zero receiver.second ≡ true)
+    (zero-at : (i : ℕ) → i < 2 ^ m → eq (get_or samples.second i nan) (fin false 0 (pos 0)) ≡ true) where
   -- behind the end of a list stands a NaN, which equals nothing
   zeros-long : 2 ^ m ≤ length samples.second
   zeros-long = by_length (dec_le (2 ^ m) (length samples.second))
@@ -112,10 +111,10 @@ module _ (m C : ℕ) (receiver : Receiver) (samples : Branches) (usable : is_abo
   zeros-finite =
       every_of (2 ^ m) (λ i. is_finite (get_or samples.second i nan)) (λ i h. zero-finite _ (zero-at i h))
 
-  pub second-zeros-number : (room : ℕ)
+  number-with-zeros : (room : ℕ)
       → front_two_number m C receiver samples room ≡ front_number m C (Gaussian receiver.first) samples.first room
-  second-zeros-number room =
-      simp (le-leb (2 ^ m) (length samples.second) zeros-long, usable, zeros-finite, and-true)
+  number-with-zeros room =
+      simp (le-leb (2 ^ m) (length samples.second) zeros-long, above, zeros-finite, and-true)
 
   ceiling-passed : (room : ℕ) → front_number m C (Gaussian receiver.first) samples.first room ≡ 0
       → C ≤ largest_ceiling
@@ -123,16 +122,31 @@ module _ (m C : ℕ) (receiver : Receiver) (samples : Branches) (usable : is_abo
       (tests-passed m C (leb (2 ^ m) (length samples.first) && leb (2 ^ m) room) (is_above_zero receiver.first)
       (all_finite (2 ^ m) samples.first) ok).ceiling.1
 
-  pub second-zeros : (old : List ℤ)
+  llrs-with-zeros : (old : List ℤ)
       → front_two_llrs m C receiver samples old ≡ front_llrs m C (Gaussian receiver.first) samples.first old
-  second-zeros old =
+  llrs-with-zeros old =
       let channel = Gaussian receiver.first in
       ap (λ (n : ℕ). unless_refused n (overwrite (2 ^ m) (llr_at C receiver samples) old) old)
-      (second-zeros-number (length old))
+      (number-with-zeros (length old))
       ∙ unless-refused-same (front_number m C channel samples.first (length old)) _ _ old (λ ok.
       overwrite-same (2 ^ m) (llr_at C receiver samples) (λ i. llr_of C channel (get_or samples.first i nan)) old
       (λ i h k. llr-with-zero C receiver (get_or samples.first i nan) (get_or samples.second i nan)
-      (ceiling-passed (length old) ok) usable (zero-at i h)))
+      (ceiling-passed (length old) ok) above (zero-at i h)))
+
+-- the second branch
+module _ (m C : ℕ) (receiver : Receiver) (samples : Branches) (usable : is_above_zero receiver.second ≡ true)
+    (zeros : all_zero (2 ^ m) samples.second ≡ true) where
+  pub second-zeros-number : (room : ℕ)
+      → front_two_number m C receiver samples room ≡ front_number m C (Gaussian receiver.first) samples.first room
+  second-zeros-number room =
+      number-with-zeros m C receiver samples usable
+      (λ i h. every-at (2 ^ m) i (λ j. eq (get_or samples.second j nan) (fin false 0 (pos 0))) zeros h) room
+
+  pub second-zeros : (old : List ℤ)
+      → front_two_llrs m C receiver samples old ≡ front_llrs m C (Gaussian receiver.first) samples.first old
+  second-zeros old =
+      llrs-with-zeros m C receiver samples usable
+      (λ i h. every-at (2 ^ m) i (λ j. eq (get_or samples.second j nan) (fin false 0 (pos 0))) zeros h) old
 
 -- the first branch: the same with the branches exchanged
 module _ (m C : ℕ) (receiver : Receiver) (samples : Branches) (usable : is_above_zero receiver.first ≡ true)
@@ -140,11 +154,17 @@ module _ (m C : ℕ) (receiver : Receiver) (samples : Branches) (usable : is_abo
   pub first-zeros-number : (room : ℕ)
       → front_two_number m C receiver samples room ≡ front_number m C (Gaussian receiver.second) samples.second room
   first-zeros-number room =
-      sym (number-exchanged m C receiver samples room)
-      ∙ second-zeros-number m C (exchanged receiver) (exchanged_branches samples) usable zeros room
+      let f = receiver.first in
+      let g = receiver.second in
+      sym (number-swapped m C f g samples.first samples.second room)
+      ∙ number-with-zeros m C (record { first = g; second = f }) (branches samples.second samples.first) usable
+      (λ i h. every-at (2 ^ m) i (λ j. eq (get_or samples.first j nan) (fin false 0 (pos 0))) zeros h) room
 
   pub first-zeros : (old : List ℤ)
       → front_two_llrs m C receiver samples old ≡ front_llrs m C (Gaussian receiver.second) samples.second old
   first-zeros old =
-      sym (llrs-exchanged m C receiver samples old)
-      ∙ second-zeros m C (exchanged receiver) (exchanged_branches samples) usable zeros old
+      let f = receiver.first in
+      let g = receiver.second in
+      sym (llrs-swapped m C f g samples.first samples.second old)
+      ∙ llrs-with-zeros m C (record { first = g; second = f }) (branches samples.second samples.first) usable
+      (λ i h. every-at (2 ^ m) i (λ j. eq (get_or samples.first j nan) (fin false 0 (pos 0))) zeros h) old

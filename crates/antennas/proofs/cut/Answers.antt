@@ -1,6 +1,6 @@
 use mathlib.Core.Path.{◌≡◌, sym}
 use mathlib.Core.Bool.{cond}
-use lib.Ieee.{Float, of_bits, neg, lt}
+use lib.Ieee.{of_bits, neg, lt}
 use Rattle.antennas.specs.FrontTwo.{largest_product}
 use Rattle.antennas.proofs.cut.Goals as goal
 use Rattle.antennas.proofs.cut.Goals.{then-product, else-product}
