@@ -122,9 +122,16 @@ mask-zero (pos (suc n)) =
     least = omega arith
 mask-zero (negsuc n) = refl
 
+-- What a value is cut to lies outside every range. The laws that rest on these numbers take them as given, so that each
+-- stands by itself; the law of all texts, at the end, shows them.
+record Outside : Type 0 where
+  ceiling-outside : largest_ceiling < outside_ranges
+  positions-outside : most_positions ≤ outside_ranges
+  llr-outside : largest_ceiling < outside_llr
+
 -- 65,539 is no 3
-llr-size : (C : ℕ) (z : ℤ) → C ≤ largest_ceiling → leb (nat_abs (llr_value z)) C ≡ leb (nat_abs z) C
-llr-size C z h =
+llr-size : Outside → (C : ℕ) (z : ℤ) → C ≤ largest_ceiling → leb (nat_abs (llr_value z)) C ≡ leb (nat_abs z) C
+llr-size out C z h =
     ap (λ (n : ℕ). leb n C) (size-flipped (is_negative z) (pos (min (nat_abs z) outside_llr))) ∙ cut (nat_abs z)
   where
     cut : (n : ℕ) → leb (min n outside_llr) C ≡ leb n C
@@ -159,12 +166,12 @@ mask-some (suc n) mask =
     one_more (suc c) zero = le-leb 1 (suc c + 1) (omega arith) ∙ sym (rw (le-leb 1 (suc c) (omega arith)))
     one_more (suc c) (suc k) = rw (add-zero (suc c), le-leb 1 (suc c) (omega arith))
 
-llr-sizes : (n C : ℕ) (llr : List ℤ) → C ≤ largest_ceiling
+llr-sizes : Outside → (n C : ℕ) (llr : List ℤ) → C ≤ largest_ceiling
     → within_ceiling n C (map llr_value llr) ≡ all_of n (λ l. leb (nat_abs l) C) llr
-llr-sizes zero C llr h = refl
-llr-sizes (suc n) C llr h =
-    ap₂ ◌&&◌ (llr-sizes n C llr h)
-    (ap (λ (z : ℤ). leb (nat_abs z) C) (get_or-map llr_value llr n (pos 0)) ∙ llr-size C (get_or llr n (pos 0)) h)
+llr-sizes out zero C llr h = refl
+llr-sizes out (suc n) C llr h =
+    ap₂ ◌&&◌ (llr-sizes out n C llr h)
+    (ap (λ (z : ℤ). leb (nat_abs z) C) (get_or-map llr_value llr n (pos 0)) ∙ llr-size out C (get_or llr n (pos 0)) h)
 
 -- ---- the whole chain of tests
 
@@ -188,12 +195,12 @@ next-test false true number x y z e same = absurd (true≢false (sym e))
 next-test false false number x y z e same = refl
 
 -- the number of a block is that of the whole numbers that it was read from
-block-whole : (zs mask llr : List ℤ) → length mask ≡ 2 ^ nat_abs (value_at zs 0)
+block-whole : Outside → (zs mask llr : List ℤ) → length mask ≡ 2 ^ nat_abs (value_at zs 0)
     → length llr ≡ 2 ^ nat_abs (value_at zs 0)
     → decode_number (settings_of zs) (map mask_value mask) (map llr_value llr) largest_lengths ≡ whole_number zs mask llr
-block-whole zs mask llr mask-long llr-long =
+block-whole out zs mask llr mask-long llr-long =
     next-test _ _ 0 _ _ _ (range-whole 1 largest_m (value_at zs 0) (lit< tt)) (λ one.
-    next-test _ _ 1 _ _ _ (range-whole 1 largest_ceiling (value_at zs 1) (lit< tt)) (λ two.
+    next-test _ _ 1 _ _ _ (range-whole 1 largest_ceiling (value_at zs 1) out.ceiling-outside) (λ two.
     next-test _ _ 2 _ _ _ (range-whole 1 largest_scale (value_at zs 2) (lit< tt)) (λ three.
     next-test _ _ 3 _ _ _ (range-whole 1 largest_limit (value_at zs 3) (lit< tt)) (λ four.
     next-test _ _ 4 _ _ _ (up-to-whole largest_criterion (value_at zs 4) (lit< tt)) (λ five.
@@ -204,7 +211,7 @@ block-whole zs mask llr mask-long llr-long =
     let C : unsigned (value_at zs 1) ≡ nat_abs (value_at zs 1) = in-range 1 largest_ceiling (value_at zs 1) two in
     let C-range : (1 ≤ nat_abs (value_at zs 1)) × (nat_abs (value_at zs 1) ≤ largest_ceiling) =
     between-passed 1 largest_ceiling (nat_abs (value_at zs 1))
-    (rw (← C) (range-whole 1 largest_ceiling (value_at zs 1) (lit< tt) ∙ two)) in
+    (rw (← C) (range-whole 1 largest_ceiling (value_at zs 1) out.ceiling-outside ∙ two)) in
     let operand : operand_fits (unsigned (value_at zs 1)) (unsigned (value_at zs 4)) (unsigned (value_at zs 5))
     ≡ operand_in_range (nat_abs (value_at zs 1)) (value_at zs 4) (value_at zs 5) =
     rw C (operand-whole (nat_abs (value_at zs 1)) (value_at zs 4) (value_at zs 5) (omega arith) five) in
@@ -217,7 +224,7 @@ block-whole zs mask llr mask-long llr-long =
       room_fits (nat_abs (value_at zs 0)) (length mask) (length llr) m-range.1 mask-long llr-long,
       mask-bits (2 ^ nat_abs (value_at zs 0)) mask,
       mask-some (2 ^ nat_abs (value_at zs 0)) mask,
-      llr-sizes (2 ^ nat_abs (value_at zs 0)) (nat_abs (value_at zs 1)) llr C-range.1,
+      llr-sizes out (2 ^ nat_abs (value_at zs 0)) (nat_abs (value_at zs 1)) llr C-range.1,
     )))))))
 
 -- ---- the lines of a text
@@ -276,17 +283,17 @@ lines-length (suc n) s lines u e =
 
 -- ---- the number of a text
 
-tested-whole : (zs : List ℤ) (R : Reading (List (List ℤ))) → 2 ^ nat_abs (value_at zs 0) ≤ most_positions
+tested-whole : Outside → (zs : List ℤ) (R : Reading (List (List ℤ))) → 2 ^ nat_abs (value_at zs 0) ≤ most_positions
     → ((lines : List (List ℤ)) (u : List ℕ) → R ≡ found lines u → length lines ≡ 2 ^ nat_abs (value_at zs 0))
     → number_in (tested largest_room (settings_of zs) (bind R (block_from 0))) ≡ whole_tested zs R
-tested-whole zs malformed small long = refl
-tested-whole zs (found lines (x ∷ u)) small long = either (numbered_from 0 lines)
+tested-whole out zs malformed small long = refl
+tested-whole out zs (found lines (x ∷ u)) small long = either (numbered_from 0 lines)
   where
     either : (ok : Bool)
         → number_in (tested largest_room (settings_of zs) (cond ok (found (block_in lines) (x ∷ u)) malformed)) ≡ 14
     either true = refl
     either false = refl
-tested-whole zs (found lines []) small long = either (numbered_from 0 lines)
+tested-whole out zs (found lines []) small long = either (numbered_from 0 lines)
   where
     either : (ok : Bool)
         → number_in (tested largest_room (settings_of zs) (cond ok (found (block_in lines) []) malformed))
@@ -299,14 +306,14 @@ tested-whole zs (found lines []) small long = either (numbered_from 0 lines)
         (record { mask-room = small; llr-room = small }) in
         number-in (block_number (settings_of zs) (held_in largest_room (block_in lines))) (settings_of zs) (block_in lines)
         ∙ ap (block_number (settings_of zs)) whole
-        ∙ block-whole zs (column 1 lines) (column 2 lines) (simp length-map (long lines [] refl))
+        ∙ block-whole out zs (column 1 lines) (column 2 lines) (simp length-map (long lines [] refl))
         (simp length-map (long lines [] refl))
     either false = refl
 
-sized-whole : (R : Reading (List ℤ))
+sized-whole : Outside → (R : Reading (List ℤ))
     → number_in (sized largest_room (bind R (λ zs s. found (settings_of zs) s))) ≡ whole_sized R
-sized-whole malformed = refl
-sized-whole (found zs s) =
+sized-whole out malformed = refl
+sized-whole out (found zs s) =
     rw (range-whole 1 largest_m (value_at zs 0) (lit< tt)) (either (in_range 1 largest_m (value_at zs 0)) refl)
   where
     either : (ok : Bool) → in_range 1 largest_m (value_at zs 0) ≡ ok
@@ -320,7 +327,7 @@ sized-whole (found zs s) =
         let small : 2 ^ nat_abs (value_at zs 0) ≤ 2 ^ 10 = pow_mono range.1 in
         ap (λ (k : ℕ). number_in (tested largest_room (settings_of zs) (read_positions (2 ^ k) 0 s))) m
         ∙ rw (lines-block (2 ^ nat_abs (value_at zs 0)) 0 s (omega arith))
-        (tested-whole zs (line_values (2 ^ nat_abs (value_at zs 0)) s) small (lines-length (2 ^ nat_abs (value_at zs 0)) s))
+        (tested-whole out zs (line_values (2 ^ nat_abs (value_at zs 0)) s) small (lines-length (2 ^ nat_abs (value_at zs 0)) s))
     either false e = refl
 
 -- for every text, its number is that of its values as they are written
@@ -330,5 +337,8 @@ compared_whole t = either (leb (length t) longest_text)
   where
     either : (ok : Bool)
         → number_in (cond ok (sized largest_room (head t)) (refused 14)) ≡ check ok 14 (whole_sized (setting_values t))
-    either true = sized-whole (setting_values t)
+    either true =
+        sized-whole
+        (record { ceiling-outside = lit< tt; positions-outside = omega arith; llr-outside = lit< tt })
+        (setting_values t)
     either false = refl

@@ -62,4 +62,4 @@ returns c =
     let s = c.args.settings in
     c.decoder_refusal.ensures
     ∙ ap (block_number s) (held)
-    ∙ lines-number c.args.room s _ (block) _ (text) (at-end) c.if-end-text.false
+    ∙ lines-number c.args.room s _ (block) _ (text) (at-end) (omega arith)
