@@ -50,54 +50,87 @@ add-flipped rule true a b = ap (cut rule.ceiling) (sym (neg_ℤ-+ℤ a b)) ∙ c
 
 -- ---- f
 
+-- the formula of f, of a scale k. The laws of f that follow are laws of it: each rests on the definition of f, and none
+-- on another law of f
+abbrev scaled_min : ℕ → ℤ → ℤ → ℤ
+scaled_min k a b = flipped (xor (is_negative a) (is_negative b)) (pos (k * min (nat_abs a) (nat_abs b) / 16))
+
+scaled-size : (k : ℕ) (a b : ℤ) → nat_abs (scaled_min k a b) ≡ k * min (nat_abs a) (nat_abs b) / 16
+scaled-size k a b = simp size-flipped
+
+scaled-size-min : (k : ℕ) (a b : ℤ) → k ≤ largest_scale → nat_abs (scaled_min k a b) ≤ min (nat_abs a) (nat_abs b)
+scaled-size-min k a b h =
+    let m = min (nat_abs a) (nat_abs b) in
+    let product : k * m ≤ 16 * m = mul-le-mul h (le_refl m) in
+    rw (scaled-size k a b) (omega arith)
+
+scaled-comm : (k : ℕ) (a b : ℤ) → scaled_min k a b ≡ scaled_min k b a
+scaled-comm k a b =
+    ap₂ (λ (s : Bool) (n : ℕ). flipped s (pos (k * n / 16)))
+    (xor_comm (is_negative a) (is_negative b))
+    (min_comm (nat_abs a) (nat_abs b))
+
+scaled-zero : (k : ℕ) (b : ℤ) → scaled_min k (pos 0) b ≡ pos 0
+scaled-zero k b =
+    let least : min 0 (nat_abs b) ≡ 0 = omega arith in
+    let size : k * min 0 (nat_abs b) ≡ 0 = rw least (mul-zero k) in
+    rw size (flipped-zero (is_negative b))
+
+scaled-negated : (k : ℕ) (a b : ℤ) → scaled_min k (neg_ℤ a) b ≡ neg_ℤ (scaled_min k a b)
+scaled-negated k (pos zero) b = scaled-zero k b ∙ ap neg_ℤ (sym (scaled-zero k b))
+scaled-negated k (pos (suc n)) b = flipped-xor true (is_negative b) _
+scaled-negated k (negsuc n) b = sym (neg_ℤ-neg_ℤ _) ∙ ap neg_ℤ (sym (flipped-xor true (is_negative b) _))
+
+scaled-flipped-first : (k : ℕ) (s : Bool) (a b : ℤ) → scaled_min k (flipped s a) b ≡ flipped s (scaled_min k a b)
+scaled-flipped-first k false a b = refl
+scaled-flipped-first k true a b = scaled-negated k a b
+
+scaled-flipped : (k : ℕ) (s t : Bool) (a b : ℤ)
+    → scaled_min k (flipped s a) (flipped t b) ≡ flipped (xor s t) (scaled_min k a b)
+scaled-flipped k s t a b =
+    scaled-flipped-first k s a (flipped t b)
+    ∙ ap (flipped s)
+    (scaled-comm k a (flipped t b) ∙ scaled-flipped-first k t b a ∙ ap (flipped t) (scaled-comm k b a))
+    ∙ sym (flipped-xor s t (scaled_min k a b))
+
 pub f-size-is : (rule : MinSum) (a b : ℤ) → nat_abs (f rule a b) ≡ rule.scale * min (nat_abs a) (nat_abs b) / 16
 unfolding f
-f-size-is rule a b = simp size-flipped
+f-size-is rule a b = scaled-size rule.scale a b
 
 f-size-min : (rule : MinSum) (a b : ℤ) → rule.scale ≤ largest_scale → nat_abs (f rule a b) ≤ min (nat_abs a) (nat_abs b)
-f-size-min rule a b h =
-    let m = min (nat_abs a) (nat_abs b) in
-    let product : rule.scale * m ≤ 16 * m = mul-le-mul h (le_refl m) in
-    rw (f-size-is rule a b) (omega arith)
+unfolding f
+f-size-min rule a b h = scaled-size-min rule.scale a b h
 
 pub f-size : (rule : MinSum) (a b : ℤ) → rule.scale ≤ largest_scale → nat_abs (f rule a b) ≤ nat_abs a
-f-size rule a b h = omega (arith, f-size-min rule a b h)
+unfolding f
+f-size rule a b h = omega (arith, scaled-size-min rule.scale a b h)
 
 pub f-size-second : (rule : MinSum) (a b : ℤ) → rule.scale ≤ largest_scale → nat_abs (f rule a b) ≤ nat_abs b
-f-size-second rule a b h = omega (arith, f-size-min rule a b h)
+unfolding f
+f-size-second rule a b h = omega (arith, scaled-size-min rule.scale a b h)
 
 pub f-comm : (rule : MinSum) (a b : ℤ) → f rule a b ≡ f rule b a
 unfolding f
-f-comm rule a b =
-    ap₂ (λ (s : Bool) (n : ℕ). flipped s (pos (rule.scale * n / 16)))
-    (xor_comm (is_negative a) (is_negative b))
-    (min_comm (nat_abs a) (nat_abs b))
+f-comm rule a b = scaled-comm rule.scale a b
 
 -- of a 0 and any number
 pub f-zero : (rule : MinSum) (b : ℤ) → f rule (pos 0) b ≡ pos 0
 unfolding f
-f-zero rule b =
-    let least : min 0 (nat_abs b) ≡ 0 = omega arith in
-    let size : rule.scale * min 0 (nat_abs b) ≡ 0 = rw least (mul-zero rule.scale) in
-    rw size (flipped-zero (is_negative b))
+f-zero rule b = scaled-zero rule.scale b
 
 f-negated : (rule : MinSum) (a b : ℤ) → f rule (neg_ℤ a) b ≡ neg_ℤ (f rule a b)
 unfolding f
-f-negated rule (pos zero) b = f-zero rule b ∙ ap neg_ℤ (sym (f-zero rule b))
-f-negated rule (pos (suc n)) b = flipped-xor true (is_negative b) _
-f-negated rule (negsuc n) b = sym (neg_ℤ-neg_ℤ _) ∙ ap neg_ℤ (sym (flipped-xor true (is_negative b) _))
+f-negated rule a b = scaled-negated rule.scale a b
 
 f-flipped-first : (rule : MinSum) (s : Bool) (a b : ℤ) → f rule (flipped s a) b ≡ flipped s (f rule a b)
-f-flipped-first rule false a b = refl
-f-flipped-first rule true a b = f-negated rule a b
+unfolding f
+f-flipped-first rule s a b = scaled-flipped-first rule.scale s a b
 
 -- the product of the signs comes out of f
 pub f-flipped : (rule : MinSum) (s t : Bool) (a b : ℤ)
     → f rule (flipped s a) (flipped t b) ≡ flipped (xor s t) (f rule a b)
-f-flipped rule s t a b =
-    f-flipped-first rule s a (flipped t b)
-    ∙ ap (flipped s) (f-comm rule a (flipped t b) ∙ f-flipped-first rule t b a ∙ ap (flipped t) (f-comm rule b a))
-    ∙ sym (flipped-xor s t (f rule a b))
+unfolding f
+f-flipped rule s t a b = scaled-flipped rule.scale s t a b
 
 -- of a message and a sum: the message lies within the ceiling and f takes the smaller size, so that the cut of the sum
 -- changes nothing
@@ -140,12 +173,13 @@ f_by_cases rule a b =
 
 pub f-cases : (rule : MinSum) (a b : ℤ) → f rule a b ≡ f_by_cases rule a b
 unfolding f
-f-cases rule (pos zero) b = f-zero rule b
-f-cases rule (pos (suc n)) (pos zero) = f-comm rule (pos (suc n)) (pos 0) ∙ f-zero rule (pos (suc n))
+f-cases rule (pos zero) b = scaled-zero rule.scale b
+f-cases rule (pos (suc n)) (pos zero) =
+    scaled-comm rule.scale (pos (suc n)) (pos 0) ∙ scaled-zero rule.scale (pos (suc n))
 f-cases rule (pos (suc n)) (pos (suc m)) = ap pos (sym (one-mul _))
 f-cases rule (pos (suc n)) (negsuc m) =
     ap (λ (i : ℕ). neg_ℤ (pos i)) (sym (one-mul (rule.scale * min (suc n) (suc m) / 16)))
-f-cases rule (negsuc n) (pos zero) = f-comm rule (negsuc n) (pos 0) ∙ f-zero rule (negsuc n)
+f-cases rule (negsuc n) (pos zero) = scaled-comm rule.scale (negsuc n) (pos 0) ∙ scaled-zero rule.scale (negsuc n)
 f-cases rule (negsuc n) (pos (suc m)) =
     ap (λ (i : ℕ). neg_ℤ (pos i)) (sym (one-mul (rule.scale * min (suc n) (suc m) / 16)))
 f-cases rule (negsuc n) (negsuc m) = ap pos (sym (one-mul _))

@@ -7,8 +7,8 @@ use Rattle.std.specs.Int.Signed.{shr_z}
 use Rattle.std.specs.Int.{Width}
 use mir.Val.{hbits, to_z, of_z}
 use Rattle.std.proofs.Math.Facts.{to_z_pos}
+use Rattle.calls.specs.SignLaws.{size-flipped}
 use Rattle.message.specs.Message.{f}
-use Rattle.message.specs.MessageLaws.{f-size-is}
 use Rattle.message.specs.declared.MinSum.{MinSum}
 
 pub shifted-size : (w : Width) (size places : ℕ) → size < 2 ^ hbits w
@@ -18,4 +18,5 @@ shifted-size w size places h = rw (to_z_pos w h) (to_z_pos w (lt_of_le_of_lt (di
 -- k times the smaller size, shifted by 4 places, is the size of f (request 2026-03)
 pub f-shifted : (w : Width) (rule : MinSum) (a b : ℤ) → rule.scale * min (nat_abs a) (nat_abs b) < 2 ^ hbits w
     → to_z w (of_z w (shr_z (to_z w (rule.scale * min (nat_abs a) (nat_abs b))) 16)) ≡ pos (nat_abs (f rule a b))
-f-shifted w rule a b h = rw (f-size-is rule a b) (shifted-size w (rule.scale * min (nat_abs a) (nat_abs b)) 4 h)
+unfolding f
+f-shifted w rule a b h = simp size-flipped (shifted-size w (rule.scale * min (nat_abs a) (nat_abs b)) 4 h)

@@ -17,6 +17,7 @@ use Rattle.sweeps.specs.Workspace.{L, R, row, set_row}
 use Rattle.sweeps.specs.WorkspaceLaws.{WorkspaceFits, length-set_row}
 use Rattle.sweeps.specs.Private.{joined_at, row_step}
 use Rattle.sweeps.specs.Iteration.{
+  left_at,
   right_at,
   left_step,
   right_step,
@@ -46,6 +47,14 @@ joined-size rule t x y p h =
     (λ z. rw z
     (le_trans (f-size-second rule (x p) (add rule (x (p + d)) (y (p + d))) h) (add-size rule (x (p + d)) (y (p + d)))))
     (λ o. rw o (add-size rule (f rule (x (p - d)) (y (p - d))) (x p)))
+
+-- (a step to the left by its own formula: its laws do not rest on `left-joined`)
+left-size : (rule : MinSum) (t : ℕ) (l r : ℕ → ℤ) (p : ℕ) → rule.scale ≤ largest_scale
+    → nat_abs (left_at rule t l r p) ≤ rule.ceiling
+left-size rule t l r p h =
+    digit-cases t p
+    (λ z. rw z (le_trans (f-size-second rule _ _ h) (add-size rule _ _)))
+    (λ o. rw o (add-size rule _ _))
 
 -- ---- both sweeps take that step
 
@@ -86,10 +95,13 @@ valid-step {rule} {m} {w} t k x y h =
 
 module _ {rule : MinSum} {m : ℕ} {w : List ℤ} (h : WorkspaceValid rule m w) where
   pub valid-left : (n : ℕ) → WorkspaceValid rule m (left_steps rule m n w)
+  unfolding left_step set_row
   valid-left zero = h
   valid-left (suc n) =
-      rw left-joined
-      (valid-step (m - suc (m - suc n)) (m - suc n) (suc (m - suc n)) (m + 1 + (m - suc n)) (valid-left n))
+      let before = left_steps rule m n w in
+      let s = m - suc n in
+      valid-written (valid-left n) (s * 2 ^ m) (2 ^ m) (left_at rule (m - suc s) (L m before (suc s)) (R m before s))
+      (λ i l. left-size rule (m - suc s) (L m before (suc s)) (R m before s) i h.in-range.scale-le)
 
   pub valid-right : (n : ℕ) → WorkspaceValid rule m (right_steps rule m n w)
   valid-right zero = h

@@ -20,6 +20,7 @@ use Rattle.sweeps.specs.Workspace.{row, set_row}
 use Rattle.sweeps.specs.WorkspaceLaws.{row_lt, length-set_row}
 use Rattle.sweeps.specs.Private.{joined_at, row_step}
 use Rattle.sweeps.specs.Iteration.{
+  left_at,
   left_step,
   right_step,
   left_steps,
@@ -30,7 +31,6 @@ use Rattle.sweeps.specs.Iteration.{
   start,
 }
 use Rattle.sweeps.specs.IterationLaws.{
-  left-joined,
   right-joined,
   length-left,
   length-right,
@@ -44,6 +44,16 @@ joined_same rule m t x x' y y' ht hx hy p hp =
     digit-cases t p
     (λ z. let far = partner-lt m t p ht hp z in rw (z, hx p hp, hx (p + 2 ^ t) far, hy (p + 2 ^ t) far))
     (λ o. let near : p - 2 ^ t < 2 ^ m = omega arith in rw (o, hx p hp, hx (p - 2 ^ t) near, hy (p - 2 ^ t) near))
+
+-- the same of the formula of a step to the left, on either side of a pair
+left_same : (rule : MinSum) (m t : ℕ) (l l' r r' : ℕ → ℤ) → t < m → ((i : ℕ) → i < 2 ^ m → l i ≡ l' i)
+    → ((i : ℕ) → i < 2 ^ m → r i ≡ r' i) → (p : ℕ) → p < 2 ^ m → left_at rule t l r p ≡ left_at rule t l' r' p
+left_same rule m t l l' r r' ht hl hr p hp =
+    digit-cases t p
+    (λ z. let far = partner-lt m t p ht hp z in
+    rw z (cc (hl p hp, hr p hp, hl (p + 2 ^ t) far, hr (p + 2 ^ t) far)))
+    (λ o. let near : p - 2 ^ t < 2 ^ m = omega arith in
+    rw o (cc (hl p hp, hr p hp, hl (p - 2 ^ t) near, hr (p - 2 ^ t) near)))
 
 -- w is the workspace, r what follows it
 module _ (m : ℕ) (r : List ℤ) where
@@ -68,6 +78,14 @@ module _ (m : ℕ) (r : List ℤ) where
         set-append w k _ _ long hk
         (joined_same rule m t _ _ _ _ ht (λ i hi. row-append w x i long hx hi) (λ i hi. row-append w y i long hy hi))
 
+    left-step-append : (w : List ℤ) (s : ℕ) → length w ≡ workspace_length m → s < m
+        → left_step rule m s (w ++ r) ≡ left_step rule m s w ++ r
+    unfolding left_step
+    left-step-append w s long hs =
+        set-append w s _ _ long (omega arith)
+        (left_same rule m (m - suc s) _ _ _ _ (omega arith) (λ i hi. row-append w (suc s) i long (omega arith) hi)
+        (λ i hi. row-append w (m + 1 + s) i long (omega arith) hi))
+
     left-append : (n : ℕ) (w : List ℤ) → length w ≡ workspace_length m → n ≤ m
         → left_steps rule m n (w ++ r) ≡ left_steps rule m n w ++ r
     left-append zero w long hn = refl
@@ -75,9 +93,7 @@ module _ (m : ℕ) (r : List ℤ) where
         let before = left_steps rule m n w in
         let s = m - suc n in
         ap (left_step rule m s) (left-append n w long (omega arith))
-        ∙ rw (left-joined rule m s (before ++ r), left-joined rule m s before)
-        (step-append before (m - suc s) s (suc s) (m + 1 + s) (length-left rule m n w ∙ long) (omega arith)
-        (omega arith) (omega arith) (omega arith))
+        ∙ left-step-append before s (length-left rule m n w ∙ long) (omega arith)
 
     right-append : (n : ℕ) (w : List ℤ) → length w ≡ workspace_length m → n ≤ m
         → right_steps rule m n (w ++ r) ≡ right_steps rule m n w ++ r
