@@ -1,5 +1,5 @@
 -- `coded_soft_outputs` meets its contract.
-use Prim.Native.Nat.{ℕ, ◌<◌, ◌-◌, ◌+◌, ◌*◌, ◌^◌}
+use Prim.Native.Nat.{ℕ, ◌<◌, ◌+◌, ◌*◌, ◌^◌}
 use mathlib.Core.Path.{◌≡◌, sym, subst, ap, ap₂, ◌∙◌}
 use native.Mathlib.Omega.{arith}
 use mir.Syntax.{w16}

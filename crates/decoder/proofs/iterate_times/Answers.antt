@@ -1,5 +1,4 @@
 -- `iterate_times` meets its contract.
-use Prim.Native.Nat.{◌-◌}
 use Rattle.sweeps.specs.IterationLaws.{valid-iterations}
 use Rattle.decoder.proofs.iterate_times.Goals as goal
 

@@ -1,5 +1,4 @@
 -- `run` meets its contract.
-use Prim.Native.Nat.{◌-◌}
 use native.Mathlib.Numerals.{add-one}
 use native.Mathlib.Omega.{arith}
 use Rattle.decoder.specs.RunLaws.{run-valid, run-memory}
