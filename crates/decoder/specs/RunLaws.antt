@@ -4,7 +4,6 @@
 use Rattle.std.specs.Prelude.{ℕ, zero, suc, ◌^◌, ◌≤◌, ◌<◌, ◌≡◌, true, false, List, ℤ, get_or}
 use Rattle.std.proofs.Math.Path.{refl}
 use Rattle.std.proofs.Common.{sym, ap, ◌∙◌, ⊎_elim, eq-or-lt_of_le, le_of_suc-le-suc, arith}
-use Rattle.calls.specs.LentMemoryLaws.{overwrite-at}
 use Rattle.sweeps.specs.Iteration.{iteration}
 use Rattle.sweeps.specs.IterationLaws.{WorkspaceValid, valid-iterations, length-iterations}
 use Rattle.criteria.specs.declared.Memory.{Memory}

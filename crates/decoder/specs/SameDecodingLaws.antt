@@ -1,6 +1,6 @@
 -- Answer and outputs don't depend on what the memory held that a call is lent to write (`old-contents-unread`): in any
 -- workspace the first 2 (m + 1) N elements go as in one of so many zeros, and what follows them stays.
-use Prim.Native.Nat.{ℕ, zero, suc, ◌+◌, ◌*◌, ◌^◌, ◌≤◌, ◌<◌}
+use Prim.Native.Nat.{ℕ, zero, suc, ◌+◌, ◌^◌, ◌≤◌, ◌<◌}
 use Rattle.std.specs.Prelude.{◌≡◌, refl, Bool, pos, length, get_or, drop, replicate}
 use Rattle.std.proofs.Common.{sym, ap₂, ◌∙◌, subst, arith, take-append-drop}
 use Rattle.std.proofs.Math.Path.{ap, fun_ext}

@@ -1,0 +1,10 @@
+use Prim.Native.Nat.{◌≤◌, ◌-◌}
+use Rattle.calls.specs.WrittenLaws.{Written}
+use Rattle.decoder.proofs.Loops.{coded_soft_by}
+use Rattle.decoder.proofs.coded_soft_outputs.Given as goal
+
+abbrev pub invariant-loop-i : goal.invariant-loop-i
+invariant-loop-i l = (l.i ≤ l.n) × Written l.i (coded_soft_by l.rule l.m l.work) l.initial.coded_soft l.coded_soft
+
+abbrev pub decreases-loop-i : goal.decreases-loop-i
+decreases-loop-i l = l.n - l.i
