@@ -20,13 +20,13 @@ use Rattle.scan.specs.ScanLaws.{digit-range, digits-end, natural-found, spaces-e
 
 -- ---- numbers
 
-is_digit : (d : ℕ) → d < 10 → is_digit (48 + d) ≡ true
-is_digit d h = rw (le-leb 48 (48 + d) (omega arith)) (le-leb (48 + d) 57 (omega arith))
+is-digit : (d : ℕ) → d < 10 → is_digit (48 + d) ≡ true
+is-digit d h = rw (le-leb 48 (48 + d) (omega arith)) (le-leb (48 + d) 57 (omega arith))
 
 -- one digit more
 digits-one : (j v d : ℕ) (s : List ℕ) → d < 10 → digits (1 + j) v ((48 + d) ∷ s) ≡ digits j (10 * v + d) s
 unfolding digits
-digits-one j v d s h = let e : 48 + d - 48 ≡ d = omega arith in rw (one-add j, is_digit d h, e)
+digits-one j v d s h = let e : 48 + d - 48 ≡ d = omega arith in rw (one-add j, is-digit d h, e)
 
 -- as many digits as n has make n
 abbrev DigitsBack : ℕ → Type 0
@@ -70,7 +70,7 @@ first-digit : (n : ℕ) → FirstDigit n
 first-digit = by_digits FirstDigit small large
   where
     small : (n : ℕ) → n < 10 → FirstDigit n
-    small n h s = rw (decimal-small n h) (is_digit n h)
+    small n h s = rw (decimal-small n h) (is-digit n h)
 
     large : (n : ℕ) → 10 ≤ n → FirstDigit (n / 10) → FirstDigit n
     large n h tenth s =
