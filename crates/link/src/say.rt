@@ -11,7 +11,11 @@ pub fn outcome(rt: &HostRuntime, outcome: Outcome) {
             console::number(rt, b" ", decoder::reason_number(why));
         }
         Outcome::Refused(refusal) => {
-            console::number(rt, b" answer refused ", calls::number(Answer::Refused(refusal)));
+            console::number(
+                rt,
+                b" answer refused ",
+                calls::number(Answer::Refused(refusal)),
+            );
         }
     }
 }

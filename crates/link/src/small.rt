@@ -14,7 +14,14 @@ fn before(rt: &HostRuntime, name: &[u8], settings: Settings, mask: &[u8], llr: &
 }
 
 // The slices that it was lent.
-fn after(rt: &HostRuntime, soft: &[i16], mark: &[u8], coded_soft: &[i16], coded_mark: &[u8], work: &[i16]) {
+fn after(
+    rt: &HostRuntime,
+    soft: &[i16],
+    mark: &[u8],
+    coded_soft: &[i16],
+    coded_mark: &[u8],
+    work: &[i16],
+) {
     console::values(rt, b" soft", soft);
     console::bytes(rt, b" mark", mark);
     console::values(rt, b" coded", coded_soft);
@@ -24,7 +31,8 @@ fn after(rt: &HostRuntime, soft: &[i16], mark: &[u8], coded_soft: &[i16], coded_
 }
 
 // One call of the decoder: what it is handed, its answer, and the lent slices afterwards.
-pub fn decode(rt: &HostRuntime, 
+pub fn decode(
+    rt: &HostRuntime,
     name: &[u8],
     settings: Settings,
     mask: &[u8],
@@ -36,9 +44,12 @@ pub fn decode(rt: &HostRuntime,
     work: &mut [i16],
 ) {
     before(rt, name, settings, mask, llr);
-    say::outcome(rt, decoder::decode(
-        settings, mask, llr, soft, mark, coded_soft, coded_mark, work,
-    ));
+    say::outcome(
+        rt,
+        decoder::decode(
+            settings, mask, llr, soft, mark, coded_soft, coded_mark, work,
+        ),
+    );
     after(rt, soft, mark, coded_soft, coded_mark, work);
 }
 
@@ -49,7 +60,8 @@ pub fn pair(rt: &HostRuntime, name: &[u8], settings: Settings, mask: &[u8], llr:
     let mut coded_soft = [9i16; 3];
     let mut coded_mark = [9u8; 3];
     let mut work = [9i16; 9];
-    decode(rt, 
+    decode(
+        rt,
         name,
         settings,
         mask,
@@ -113,7 +125,8 @@ pub fn four_positions(rt: &HostRuntime) {
     let mut coded_soft = [9i16; 5];
     let mut coded_mark = [9u8; 5];
     let mut work = [9i16; 25];
-    decode(rt, 
+    decode(
+        rt,
         b"P8",
         settings,
         &[1, 1, 1, 0],

@@ -70,7 +70,10 @@ fn front(rt: &HostRuntime, block: &[u8; 65], llr: &mut [i16]) {
     let mut samples = [0.0f32; 64];
     fill_samples(block, 1.0, 5, &mut samples);
     console::text(rt, b"link gaussian 8 m=6 C=127");
-    console::answer(rt, channel::front(6, 127, Channel::Gaussian(8.0), &samples, llr));
+    console::answer(
+        rt,
+        channel::front(6, 127, Channel::Gaussian(8.0), &samples, llr),
+    );
     console::values(rt, b" llr", llr);
     console::text(rt, b"\n");
 }
@@ -86,7 +89,10 @@ fn front_two(rt: &HostRuntime, block: &[u8; 65], llr: &mut [i16]) {
         second: 6.0,
     };
     console::text(rt, b"link two 8 6 m=6 C=127");
-    console::answer(rt, antennas::front_two(6, 127, receiver, &first, &second, llr));
+    console::answer(
+        rt,
+        antennas::front_two(6, 127, receiver, &first, &second, llr),
+    );
     console::values(rt, b" llr", llr);
     console::text(rt, b"\n");
 }
@@ -97,16 +103,19 @@ fn decode(rt: &HostRuntime, settings: Settings, mask: &[u8], llr: &[i16], mark: 
     let mut coded_soft = [9i16; 65];
     let mut coded_mark = [9u8; 65];
     let mut work = [9i16; 897];
-    say::outcome(rt, decoder::decode(
-        settings,
-        mask,
-        llr,
-        &mut soft,
-        mark,
-        &mut coded_soft,
-        &mut coded_mark,
-        &mut work,
-    ));
+    say::outcome(
+        rt,
+        decoder::decode(
+            settings,
+            mask,
+            llr,
+            &mut soft,
+            mark,
+            &mut coded_soft,
+            &mut coded_mark,
+            &mut work,
+        ),
+    );
 }
 
 // The read-out of the marks, beside the message.
@@ -120,7 +129,15 @@ fn read_out(rt: &HostRuntime, mask: &[u8], mark: &[u8], message: &[u8; 32]) {
 }
 
 // One limit and criterion on the LLRs.
-fn receive(rt: &HostRuntime, limit: u32, criterion: u32, operand: u32, mask: &[u8], message: &[u8; 32], llr: &[i16]) {
+fn receive(
+    rt: &HostRuntime,
+    limit: u32,
+    criterion: u32,
+    operand: u32,
+    mask: &[u8],
+    message: &[u8; 32],
+    llr: &[i16],
+) {
     let settings = Settings {
         m: 6,
         ceiling: 127,
