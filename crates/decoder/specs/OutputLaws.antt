@@ -41,22 +41,24 @@ soft-flipped rule byte b left right frozen = kind-flipped _ _ _ byte b frozen (a
 
 -- ---- a frozen position, whatever the workspace holds: its soft output is C, so it is never tied and never marked 1
 
-mark-positive : (n : ℕ) → 1 ≤ n → mark_of (pos n) ≡ 0
+pub mark-positive : (n : ℕ) → 1 ≤ n → mark_of (pos n) ≡ 0
 mark-positive zero some = absurd (omega arith)
 mark-positive (suc n) some = refl
 
 module _ (s : Settings) (mask : List ℕ) (w : List ℤ) (i : ℕ) (frozen : is_information (get_or mask i 0) ≡ false) where
-  certain : soft_at s mask w i ≡ flipped (frozen_bit (get_or mask i 0)) (pos s.ceiling)
-  certain = soft-frozen (rule_of s) (get_or mask i 0) (L s.m w 0 i) (R s.m w 0 i) frozen
-
   pub frozen-size-at : nat_abs (soft_at s mask w i) ≡ s.ceiling
-  frozen-size-at = ap nat_abs certain ∙ size-flipped (frozen_bit (get_or mask i 0)) (pos s.ceiling)
+  frozen-size-at =
+      ap nat_abs (kind-frozen _ _ (get_or mask i 0) frozen)
+      ∙ size-flipped (frozen_bit (get_or mask i 0)) (pos s.ceiling)
 
   pub frozen-soft-at : soft_at s mask w i ≡ pos s.ceiling
-  frozen-soft-at = certain ∙ rw (frozen-bit-zero (get_or mask i 0))
+  frozen-soft-at = kind-frozen _ _ (get_or mask i 0) frozen ∙ rw (frozen-bit-zero (get_or mask i 0))
 
   pub frozen-mark-at : 1 ≤ s.ceiling → mark_at s mask w i ≡ 0
-  frozen-mark-at some = ap mark_of frozen-soft-at ∙ mark-positive s.ceiling some
+  frozen-mark-at some =
+      let soft : soft_at s mask w i ≡ pos s.ceiling =
+      kind-frozen _ _ (get_or mask i 0) frozen ∙ rw (frozen-bit-zero (get_or mask i 0)) in
+      ap mark_of soft ∙ mark-positive s.ceiling some
 
 -- ---- the outputs of a workspace
 

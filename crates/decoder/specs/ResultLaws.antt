@@ -5,6 +5,8 @@ use Rattle.std.proofs.Common.{ap, ap₂, ◌∙◌, arith, lit≤}
 use Rattle.calls.specs.LentMemoryLaws.{overwrite-at}
 use Rattle.calls.specs.Numbers.{check, first_refusal}
 use Rattle.polar.specs.Mask.{is_information}
+use Rattle.polar.specs.MaskLaws.{kind-frozen, frozen-bit-zero}
+use Rattle.criteria.specs.Marks.{mark_of}
 use Rattle.settings.specs.declared.Settings.{Settings}
 use Rattle.settings.specs.Settings.{largest_limit, settings_number}
 use Rattle.settings.specs.Slices.{Slices, lengths_of}
@@ -28,7 +30,7 @@ use Rattle.decoder.specs.Decoder.{
   decode_result,
   decode_slices,
 }
-use Rattle.decoder.specs.OutputLaws.{frozen-soft-at, frozen-mark-at}
+use Rattle.decoder.specs.OutputLaws.{mark-positive}
 
 abbrev pub DecoderAnswer : Result → Type 0
 DecoderAnswer (refused number) = (1 ≤ number) × (number ≤ 10)
@@ -100,43 +102,54 @@ module _ (s : Settings) (mask : List ℕ) (llr : List ℤ) (lent : Slices) where
 -- ---- an accepted call: each place of its outputs
 
 module _ (s : Settings) (mask : List ℕ) (llr : List ℤ) (lent : Slices) (ok : call_number s mask llr lent ≡ 0) where
-  written : decode_slices s mask llr lent ≡ outputs_of s mask (final s mask llr lent.work) lent
-  written = rw ok
-
   fits : OutputsFit (2 ^ s.m) lent
   fits = outputs-fit lent (accepted s mask llr (lengths_of lent) ok).slices
 
   module _ (i : ℕ) (l : i < 2 ^ s.m) where
-    pub soft-written : get_or (decode_slices s mask llr lent).soft i (pos 0)
-        ≡ soft_at s mask (final s mask llr lent.work) i
-    soft-written =
-        ap (λ (x : Slices). get_or x.soft i (pos 0)) written
+    soft-place : {x : Slices} → x ≡ outputs_of s mask (final s mask llr lent.work) lent
+        → get_or x.soft i (pos 0) ≡ soft_at s mask (final s mask llr lent.work) i
+    soft-place is =
+        ap (λ (x : Slices). get_or x.soft i (pos 0)) is
         ∙ overwrite-at (2 ^ s.m) _ lent.soft i (pos 0) l (omega (arith, fits.soft))
 
-    pub mark-written : get_or (decode_slices s mask llr lent).mark i 0 ≡ mark_at s mask (final s mask llr lent.work) i
-    mark-written =
-        ap (λ (x : Slices). get_or x.mark i 0) written
+    mark-place : {x : Slices} → x ≡ outputs_of s mask (final s mask llr lent.work) lent
+        → get_or x.mark i 0 ≡ mark_at s mask (final s mask llr lent.work) i
+    mark-place is =
+        ap (λ (x : Slices). get_or x.mark i 0) is
         ∙ overwrite-at (2 ^ s.m) _ lent.mark i 0 l (omega (arith, fits.mark))
+
+    pub soft-written : get_or (decode_slices s mask llr lent).soft i (pos 0)
+        ≡ soft_at s mask (final s mask llr lent.work) i
+    soft-written = soft-place {x = decode_slices s mask llr lent} (rw ok)
+
+    pub mark-written : get_or (decode_slices s mask llr lent).mark i 0 ≡ mark_at s mask (final s mask llr lent.work) i
+    mark-written = mark-place {x = decode_slices s mask llr lent} (rw ok)
 
     pub coded_soft-written : get_or (decode_slices s mask llr lent).coded_soft i (pos 0)
         ≡ coded_soft_at s (final s mask llr lent.work) i
     coded_soft-written =
+        let written : decode_slices s mask llr lent ≡ outputs_of s mask (final s mask llr lent.work) lent = rw ok in
         ap (λ (x : Slices). get_or x.coded_soft i (pos 0)) written
         ∙ overwrite-at (2 ^ s.m) _ lent.coded_soft i (pos 0) l (omega (arith, fits.coded_soft))
 
     pub coded_mark-written : get_or (decode_slices s mask llr lent).coded_mark i 0
         ≡ coded_mark_at s (final s mask llr lent.work) i
     coded_mark-written =
+        let written : decode_slices s mask llr lent ≡ outputs_of s mask (final s mask llr lent.work) lent = rw ok in
         ap (λ (x : Slices). get_or x.coded_mark i 0) written
         ∙ overwrite-at (2 ^ s.m) _ lent.coded_mark i 0 l (omega (arith, fits.coded_mark))
 
     -- at a frozen position the soft output is C and the mark 0
     module _ (frozen : is_information (get_or mask i 0) ≡ false) where
       pub frozen-soft-written : get_or (decode_slices s mask llr lent).soft i (pos 0) ≡ pos s.ceiling
-      frozen-soft-written = soft-written ∙ frozen-soft-at s mask (final s mask llr lent.work) i frozen
+      frozen-soft-written =
+          soft-place {x = decode_slices s mask llr lent} (rw ok)
+          ∙ kind-frozen _ _ (get_or mask i 0) frozen ∙ rw (frozen-bit-zero (get_or mask i 0))
 
       pub frozen-mark-written : get_or (decode_slices s mask llr lent).mark i 0 ≡ 0
       frozen-mark-written =
-          mark-written
-          ∙ frozen-mark-at s mask (final s mask llr lent.work) i frozen
-          (accepted s mask llr (lengths_of lent) ok).settings.ceiling-some
+          let soft : soft_at s mask (final s mask llr lent.work) i ≡ pos s.ceiling =
+          kind-frozen _ _ (get_or mask i 0) frozen ∙ rw (frozen-bit-zero (get_or mask i 0)) in
+          mark-place {x = decode_slices s mask llr lent} (rw ok)
+          ∙ ap mark_of soft
+          ∙ mark-positive s.ceiling (accepted s mask llr (lengths_of lent) ok).settings.ceiling-some

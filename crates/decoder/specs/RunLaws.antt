@@ -70,36 +70,60 @@ module _ {s : Settings} {mask : List ℕ} {w : List ℤ} {t : ℕ} {memory : Mem
   marks-before : 1 ≤ t → (i : ℕ) → i < 2 ^ s.m → get_or before.mark i 0 ≡ mark_at s mask (work_after s mask w t) i
   marks-before some i l = marks some i l ∙ ap (λ (v : List ℤ). mark_at s mask v i) h.work-is
 
-  step-memory : r.memory ≡ remembered_after s mask w (suc t)
-  step-memory =
+  -- each of the three stands by itself, so that a definition that is wrong is refused at each
+  pub step-holds : r.holds ≡ holds_after s mask w (suc t)
+  step-holds =
+      let memory-is : r.memory ≡ remembered_after s mask w (suc t) =
       step.memory-is
       ∙ memory-next s.m (criterion_of s) mask (soft_after s mask w) (coded_soft_after s mask w) t
       (λ i. get_or before.mark i 0) marks-before
       (soft_at s mask after.work) (λ i l. ap (λ (v : List ℤ). soft_at s mask v i) step-work)
-      (coded_mark_at s after.work) (λ i l. ap (λ (v : List ℤ). coded_mark_at s v i) step-work) h.memory-is
-
-  pub step-holds : r.holds ≡ holds_after s mask w (suc t)
-  step-holds =
+      (coded_mark_at s after.work) (λ i l. ap (λ (v : List ℤ). coded_mark_at s v i) step-work) h.memory-is in
       step.holds-is
       ∙ holds-next s.m (criterion_of s) mask (soft_after s mask w) (coded_soft_after s mask w) t
       (λ i. get_or before.mark i 0) marks-before
       (soft_at s mask after.work) (λ i l. ap (λ (v : List ℤ). soft_at s mask v i) step-work)
-      (coded_mark_at s after.work) (λ i l. ap (λ (v : List ℤ). coded_mark_at s v i) step-work) step-memory
+      (coded_mark_at s after.work) (λ i l. ap (λ (v : List ℤ). coded_mark_at s v i) step-work) memory-is
 
   -- the criterion does not hold: the run goes on
   pub run-next : r.holds ≡ false → RunGoesOn s mask w (suc t) r.memory after.work
-  run-next fails = record {
-    work-is = step-work;
-    memory-is = step-memory;
-    none =
-        λ j p q. ⊎_elim (λ e. rw e (sym step-holds ∙ fails)) (λ l. h.none j p (le_of_suc-le-suc l)) (eq-or-lt_of_le q);
-  }
+  run-next fails =
+      let memory-is : r.memory ≡ remembered_after s mask w (suc t) =
+      step.memory-is
+      ∙ memory-next s.m (criterion_of s) mask (soft_after s mask w) (coded_soft_after s mask w) t
+      (λ i. get_or before.mark i 0) marks-before
+      (soft_at s mask after.work) (λ i l. ap (λ (v : List ℤ). soft_at s mask v i) step-work)
+      (coded_mark_at s after.work) (λ i l. ap (λ (v : List ℤ). coded_mark_at s v i) step-work) h.memory-is in
+      let holds-is : r.holds ≡ holds_after s mask w (suc t) =
+      step.holds-is
+      ∙ holds-next s.m (criterion_of s) mask (soft_after s mask w) (coded_soft_after s mask w) t
+      (λ i. get_or before.mark i 0) marks-before
+      (soft_at s mask after.work) (λ i l. ap (λ (v : List ℤ). soft_at s mask v i) step-work)
+      (coded_mark_at s after.work) (λ i l. ap (λ (v : List ℤ). coded_mark_at s v i) step-work) memory-is in
+      record {
+        work-is = step-work;
+        memory-is = memory-is;
+        none =
+            λ j p q. ⊎_elim (λ e. rw e (sym holds-is ∙ fails)) (λ l. h.none j p (le_of_suc-le-suc l)) (eq-or-lt_of_le q);
+      }
 
   -- it holds: the run has ended
   pub run_ends : r.holds ≡ true → suc t ≤ s.limit → end_of s mask w ≡ record { iteration = suc t; reason = 1 }
   run_ends ok high =
+      let memory-is : r.memory ≡ remembered_after s mask w (suc t) =
+      step.memory-is
+      ∙ memory-next s.m (criterion_of s) mask (soft_after s mask w) (coded_soft_after s mask w) t
+      (λ i. get_or before.mark i 0) marks-before
+      (soft_at s mask after.work) (λ i l. ap (λ (v : List ℤ). soft_at s mask v i) step-work)
+      (coded_mark_at s after.work) (λ i l. ap (λ (v : List ℤ). coded_mark_at s v i) step-work) h.memory-is in
+      let holds-is : r.holds ≡ holds_after s mask w (suc t) =
+      step.holds-is
+      ∙ holds-next s.m (criterion_of s) mask (soft_after s mask w) (coded_soft_after s mask w) t
+      (λ i. get_or before.mark i 0) marks-before
+      (soft_at s mask after.work) (λ i l. ap (λ (v : List ℤ). soft_at s mask v i) step-work)
+      (coded_mark_at s after.work) (λ i l. ap (λ (v : List ℤ). coded_mark_at s v i) step-work) memory-is in
       ending-found (holds_after s mask w) (suc t) s.limit (omega arith) high
-      (λ j p q. h.none j p (le_of_suc-le-suc q)) (sym step-holds ∙ ok)
+      (λ j p q. h.none j p (le_of_suc-le-suc q)) (sym holds-is ∙ ok)
 
 -- criterion 0 holds at no iteration
 pub never_ends : (s : Settings) (mask : List ℕ) (w : List ℤ) → s.criterion ≡ 0 → 1 ≤ s.limit

@@ -94,26 +94,6 @@ module _ (s : Settings) (mask : List ℕ) (llr : List ℤ) where
     output-after output reads t i hi =
         ap (λ (w : List ℤ). output w i) (after-append t) ∙ reads (after s mask llr zeros t) rest (length_run t) i hi
 
-    ending-any : ending s mask llr old ≡ ending s mask llr zeros
-    unfolding ending after
-    ending-any =
-        ap (λ (held : ℕ → Bool). ending_of held s.limit)
-        (fun_ext
-        (holds_same s.m mask _ _ _ _ (output-after (soft_at s mask) (soft-reads s mask))
-        (output-after (coded_soft_at s) (coded-soft-reads s)) (criterion_of s)))
-
-    -- as they stand at the end
-    final-append : final s mask llr old ≡ final s mask llr zeros ++ rest
-    final-append =
-        ap (λ (e : Ending). after s mask llr old e.iteration) ending-any
-        ∙ after-append (ending s mask llr zeros).iteration
-
-    output-final : (output : List ℤ → ℕ → ℤ) → ReadsWorkspace s.m output → (i : ℕ) → i < 2 ^ s.m
-        → output (final s mask llr old) i ≡ output (final s mask llr zeros) i
-    output-final output reads i hi =
-        ap (λ (w : List ℤ). output w i) final-append
-        ∙ reads (final s mask llr zeros) rest (length_run (ending s mask llr zeros).iteration) i hi
-
 -- ---- slices by the number of the calls
 
 -- nothing is written after a refusal
@@ -148,51 +128,9 @@ module _ (s : Settings) (mask : List ℕ) (llr : List ℤ) (lent lent' : Slices)
   numbers : call_number s mask llr lent ≡ call_number s mask llr lent'
   numbers = ap (decode_number s mask llr) lengths
 
-  module _ (ok : call_number s mask llr lent ≡ 0) where
-    long : SlicesAccepted s.m (length mask) (length llr) (lengths_of lent)
-    long = (accepted s mask llr (lengths_of lent) ok).slices
-
-    long' : SlicesAccepted s.m (length mask) (length llr) (lengths_of lent')
-    long' = (accepted s mask llr (lengths_of lent') (sym numbers ∙ ok)).slices
-
-    endings-same : ending s mask llr lent.work ≡ ending s mask llr lent'.work
-    endings-same =
-        ending-any s mask llr lent.work long.work-long
-        ∙ sym (ending-any s mask llr lent'.work long'.work-long)
-
-    output-same : (output : List ℤ → ℕ → ℤ) → ReadsWorkspace s.m output → (i : ℕ) → i < 2 ^ s.m
-        → output (final s mask llr lent.work) i ≡ output (final s mask llr lent'.work) i
-    output-same output reads i hi =
-        output-final s mask llr lent.work long.work-long output reads i hi
-        ∙ sym (output-final s mask llr lent'.work long'.work-long output reads i hi)
-
-    outputs-same : SameSlices 0 s.m lent lent' (outputs_of s mask (final s mask llr lent.work) lent)
-        (outputs_of s mask (final s mask llr lent'.work) lent')
-    outputs-same =
-        let soft-same = output-same (soft_at s mask) (soft-reads s mask) in
-        let coded-same = output-same (coded_soft_at s) (coded-soft-reads s) in
-        record {
-          soft =
-              same-overwritten (2 ^ s.m) _ _ lent.soft lent'.soft long.soft-long long'.soft-long soft-same;
-          mark =
-              same-overwritten (2 ^ s.m) _ _ lent.mark lent'.mark long.mark-long long'.mark-long
-              (λ i hi. ap mark_of (soft-same i hi));
-          coded_soft =
-              same-overwritten (2 ^ s.m) _ _ lent.coded_soft lent'.coded_soft long.coded-soft-long
-              long'.coded-soft-long coded-same;
-          coded_mark =
-              same-overwritten (2 ^ s.m) _ _ lent.coded_mark lent'.coded_mark long.coded-mark-long
-              long'.coded-mark-long (λ i hi. ap mark_of (coded-same i hi));
-          work =
-              rw (
-                final-append s mask llr lent.work long.work-long,
-                final-append s mask llr lent'.work long'.work-long,
-              )
-              (same-before-rest (workspace_length s.m) (final s mask llr (zeros s mask llr)) lent.work
-              lent'.work (length_run s mask llr (ending s mask llr (zeros s mask llr)).iteration));
-        }
-
+  -- the run of either goes as the one from zeros, so both end alike, with the same outputs
   pub old-contents-unread : SameDecoding s s mask llr lent lent'
+  unfolding ending after
   old-contents-unread = record {
     answer = result-same (call_number s mask llr lent') (call_number s mask llr lent) _ _ numbers
         (λ ok. endings-same (numbers ∙ ok));
@@ -200,3 +138,71 @@ module _ (s : Settings) (mask : List ℕ) (llr : List ℤ) (lent lent' : Slices)
         rw (← numbers)
         (slices-by-number (call_number s mask llr lent) s.m lent lent' _ _ outputs-same);
   }
+    where
+      ending-any : (old : List ℤ) → workspace_length s.m ≤ length old
+          → ending s mask llr old ≡ ending s mask llr (zeros s mask llr)
+      ending-any old room =
+          ap (λ (held : ℕ → Bool). ending_of held s.limit)
+          (fun_ext
+          (holds_same s.m mask _ _ _ _ (output-after s mask llr old room (soft_at s mask) (soft-reads s mask))
+          (output-after s mask llr old room (coded_soft_at s) (coded-soft-reads s)) (criterion_of s)))
+
+      -- as they stand at the end
+      final-append : (old : List ℤ) → workspace_length s.m ≤ length old
+          → final s mask llr old ≡ final s mask llr (zeros s mask llr) ++ drop (workspace_length s.m) old
+      final-append old room =
+          ap (λ (e : Ending). after s mask llr old e.iteration) (ending-any old room)
+          ∙ after-append s mask llr old room (ending s mask llr (zeros s mask llr)).iteration
+
+      output-final : (old : List ℤ) → workspace_length s.m ≤ length old → (output : List ℤ → ℕ → ℤ)
+          → ReadsWorkspace s.m output → (i : ℕ) → i < 2 ^ s.m
+          → output (final s mask llr old) i ≡ output (final s mask llr (zeros s mask llr)) i
+      output-final old room output reads i hi =
+          ap (λ (w : List ℤ). output w i) (final-append old room)
+          ∙ reads (final s mask llr (zeros s mask llr)) (drop (workspace_length s.m) old)
+          (length_run s mask llr (ending s mask llr (zeros s mask llr)).iteration) i hi
+
+      long : call_number s mask llr lent ≡ 0 → SlicesAccepted s.m (length mask) (length llr) (lengths_of lent)
+      long ok = (accepted s mask llr (lengths_of lent) ok).slices
+
+      long' : call_number s mask llr lent ≡ 0 → SlicesAccepted s.m (length mask) (length llr) (lengths_of lent')
+      long' ok = (accepted s mask llr (lengths_of lent') (sym numbers ∙ ok)).slices
+
+      endings-same : call_number s mask llr lent ≡ 0 → ending s mask llr lent.work ≡ ending s mask llr lent'.work
+      endings-same ok =
+          ending-any lent.work (long ok).work-long
+          ∙ sym (ending-any lent'.work (long' ok).work-long)
+
+      output-same : call_number s mask llr lent ≡ 0 → (output : List ℤ → ℕ → ℤ) → ReadsWorkspace s.m output
+          → (i : ℕ) → i < 2 ^ s.m
+          → output (final s mask llr lent.work) i ≡ output (final s mask llr lent'.work) i
+      output-same ok output reads i hi =
+          output-final lent.work (long ok).work-long output reads i hi
+          ∙ sym (output-final lent'.work (long' ok).work-long output reads i hi)
+
+      outputs-same : call_number s mask llr lent ≡ 0
+          → SameSlices 0 s.m lent lent' (outputs_of s mask (final s mask llr lent.work) lent)
+          (outputs_of s mask (final s mask llr lent'.work) lent')
+      outputs-same ok =
+          let soft-same = output-same ok (soft_at s mask) (soft-reads s mask) in
+          let coded-same = output-same ok (coded_soft_at s) (coded-soft-reads s) in
+          record {
+            soft =
+                same-overwritten (2 ^ s.m) _ _ lent.soft lent'.soft (long ok).soft-long (long' ok).soft-long soft-same;
+            mark =
+                same-overwritten (2 ^ s.m) _ _ lent.mark lent'.mark (long ok).mark-long (long' ok).mark-long
+                (λ i hi. ap mark_of (soft-same i hi));
+            coded_soft =
+                same-overwritten (2 ^ s.m) _ _ lent.coded_soft lent'.coded_soft (long ok).coded-soft-long
+                (long' ok).coded-soft-long coded-same;
+            coded_mark =
+                same-overwritten (2 ^ s.m) _ _ lent.coded_mark lent'.coded_mark (long ok).coded-mark-long
+                (long' ok).coded-mark-long (λ i hi. ap mark_of (coded-same i hi));
+            work =
+                rw (
+                  final-append lent.work (long ok).work-long,
+                  final-append lent'.work (long' ok).work-long,
+                )
+                (same-before-rest (workspace_length s.m) (final s mask llr (zeros s mask llr)) lent.work
+                lent'.work (length_run s mask llr (ending s mask llr (zeros s mask llr)).iteration));
+          }

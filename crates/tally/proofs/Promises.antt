@@ -1,4 +1,4 @@
--- The promise of a tallied call from its two ways: refused with 15, and decoded and counted.
+-- The decoder's answer counts.
 use Prim.Native.Nat.{ℕ}
 use mathlib.Core.Path.{◌≡◌, ◌∙◌}
 use mathlib.Core.List.{List}
@@ -14,18 +14,6 @@ use Rattle.tally.specs.Tally.{tally_number, counted, TalliedDecode}
 use Rattle.decoder.specs.ResultLaws.{DecoderAnswer, decoder-answer}
 
 module _ (t : Tally) (s : Settings) (mask : List ℕ) (llr : List ℤ) (before : Slices) where
-  pub tallied-refused : tally_number t ≡ 15
-      → TalliedDecode t s mask llr before before (record { tally = t; outcome = Refused UnusableTally })
-  tallied-refused h = record { answer = rw h; tally-is = rw h; slices = rw h }
-
   module _ {after : Slices} {r : Outcome} (d : Decoded s mask llr before after r) where
     pub answered : DecoderAnswer (result_of r)
     answered = rw d.answer (decoder-answer s mask llr before)
-
-    pub tallied-decoded : {tally : Tally} → tally_number t ≡ 0 → tally ≡ counted t (result_of r)
-        → TalliedDecode t s mask llr before after (record { tally = tally; outcome = r })
-    tallied-decoded h e = record {
-      answer = rw h d.answer;
-      tally-is = rw h (e ∙ rw d.answer);
-      slices = rw h d.slices;
-    }
