@@ -170,20 +170,22 @@ module _ (s : Settings) (b : Block) (none : block_number s b ≡ 0) where
 abbrev slice : Settings → Block → List ℕ → ℕ → List ℕ
 slice s b old number = unless_refused number (written_over (tidy_text s b) old) old
 
--- a refusal for one of the decoder's numbers
+-- a refusal for one of the decoder's numbers. Here and below each law shows the number by itself, so that each says by
+-- itself where a definition breaks it
 module _ (s : Settings) (b : Block) (old : List ℕ) (r : Refusal) (e : refusal_number r ≡ block_number s b) where
-  number-first : write_number s b (length old) ≡ refusal_number r
-  number-first = rw (← e) (refused-first r _)
-
   pub refused-answer : rejected (refusal_number r) ≡ write_answer s b old
-  refused-answer = rw number-first (sym (positive (refusal_number r) _ (refused-first r 1)))
+  refused-answer =
+      let number-first : write_number s b (length old) ≡ refusal_number r = rw (← e) (refused-first r _) in
+      rw number-first (sym (positive (refusal_number r) _ (refused-first r 1)))
     where
       positive : (n k : ℕ) → first_refusal n 1 ≡ n → write_answer_by n k ≡ rejected n
       positive zero k h = absurd (omega arith)
       positive (suc n) k h = refl
 
   pub refused-text : old ≡ text_after s b old
-  refused-text = sym (refused-keeps r _ old) ∙ ap (slice s b old) (sym number-first)
+  refused-text =
+      let number-first : write_number s b (length old) ≡ refusal_number r = rw (← e) (refused-first r _) in
+      sym (refused-keeps r _ old) ∙ ap (slice s b old) (sym number-first)
 
 -- the number, by the decoder's and whether the text has room
 abbrev number_by : ℕ → Bool → ℕ
@@ -191,24 +193,29 @@ number_by number fits = first_refusal number (check fits 7 0)
 
 module _ (s : Settings) (b : Block) (old : List ℕ) (e : block_number s b ≡ 0) where
   -- 7, for a slice that is too short
-  short-number : length old < length (tidy_text s b) → write_number s b (length old) ≡ 7
-  short-number h = ap₂ number_by e (lt-leb (length (tidy_text s b)) (length old) h)
-
   pub short-answer : length old < length (tidy_text s b) → rejected 7 ≡ write_answer s b old
-  short-answer h = rw (short-number h)
+  short-answer h =
+      let short : write_number s b (length old) ≡ 7 = ap₂ number_by e (lt-leb (length (tidy_text s b)) (length old) h) in
+      rw short
 
   pub short-text : length old < length (tidy_text s b) → old ≡ text_after s b old
-  short-text h = ap (slice s b old) (sym (short-number h))
+  short-text h =
+      let short : write_number s b (length old) ≡ 7 = ap₂ number_by e (lt-leb (length (tidy_text s b)) (length old) h) in
+      ap (slice s b old) (sym short)
 
   -- the text, where it has room
   pub written-number : length (tidy_text s b) ≤ length old → write_number s b (length old) ≡ 0
   written-number h = ap₂ number_by e (le-leb (length (tidy_text s b)) (length old) h)
 
   pub written-answer : length (tidy_text s b) ≤ length old → wrote (length (tidy_text s b)) ≡ write_answer s b old
-  written-answer h = rw (written-number h)
+  written-answer h =
+      let fits : write_number s b (length old) ≡ 0 = ap₂ number_by e (le-leb (length (tidy_text s b)) (length old) h) in
+      rw fits
 
   pub written-text : length (tidy_text s b) ≤ length old → written_over (tidy_text s b) old ≡ text_after s b old
-  written-text h = ap (slice s b old) (sym (written-number h))
+  written-text h =
+      let fits : write_number s b (length old) ≡ 0 = ap₂ number_by e (le-leb (length (tidy_text s b)) (length old) h) in
+      ap (slice s b old) (sym fits)
 
 -- ---- what an answer says
 

@@ -201,7 +201,11 @@ first-whole s b fit =
     ap₂ block_of (take_all (2 ^ s.m) b.mask (omega arith)) (take_all (2 ^ s.m) b.llr (omega arith))
 
 pub fit-means : (s : Settings) (b : Block) → Fit s b → meaning (tidy_text s b) ≡ block s b
-fit-means s b fit = read-written s b fit.number ∙ ap (block s) (first-whole s b fit)
+unfolding meaning
+fit-means s b fit =
+    let small = few-positions s b fit.number in
+    read-written-in largest_room s b fit.number (record { mask-room = small; llr-room = small })
+    ∙ ap (block s) (first-whole s b fit)
 
 -- what is written of an accepted text's meaning has that meaning
 pub tidy-means : (t : List ℕ) {s : Settings} {b : Block} → meaning t ≡ block s b → meaning (tidy_text s b) ≡ block s b
