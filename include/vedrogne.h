@@ -44,8 +44,8 @@ extern "C" {
  * The version of header and archive. The second number is that of the last change request in it (2026-07), the third
  * counts what has changed for a user since. VEDROGNE_VERSION_NUMBER is 10000, 100 and 1 times the three, for #if.
  */
-#define VEDROGNE_VERSION "0.7.1"
-#define VEDROGNE_VERSION_NUMBER 701
+#define VEDROGNE_VERSION "0.7.0"
+#define VEDROGNE_VERSION_NUMBER 700
 
 /*
  * What a function returns: 0, or the number of a refusal. Behind each number: why a call is refused with it, and the
