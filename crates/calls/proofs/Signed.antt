@@ -1,4 +1,5 @@
--- Signed numbers in an `i16`. The code's view of a number z is `to_z w16 (of_z w16 z)`, which is z where z fits; `-z` in
+-- Signed numbers in an `i16`. The code's view of a number z is `to_z w16 (of_z w16 z)`, which is z where z fits; `-z`
+-- in
 -- the code is 0 - z.
 use Prim.Native.Nat.{◌<◌, ◌^◌}
 use mathlib.Core.Path.{◌≡◌, refl, sym, subst, ◌∙◌}

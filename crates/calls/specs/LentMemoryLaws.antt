@@ -1,7 +1,9 @@
 -- Laws of lent memory: the length and the elements of an overwritten list, how it grows, a list written over the first
 -- elements, a slice after a call, and slices of two calls that write the same.
-use Rattle.std.specs.Prelude.{ℕ, zero, suc, ◌+◌, ◌-◌, ◌≤◌, ◌<◌, ◌≡◌, refl, List, [], ◌∷◌, ◌++◌, length, get_or, set, take, drop}
-use Rattle.std.proofs.Common.{sym, ap, ap₂, ◌∙◌, le_of_suc-le-suc, not-suc-le-zero, add-zero, add-suc, zero-add, suc-add, arith, drop-drop, get_or-take, take_all, take_at, drop_at}
+use Rattle.std.specs.Prelude.{ℕ, zero, suc, ◌+◌, ◌-◌, ◌≤◌, ◌<◌, ◌≡◌, refl, List, [], ◌∷◌, ◌++◌, length, get_or, set}
+use Rattle.std.specs.Prelude.{take, drop}
+use Rattle.std.proofs.Common.{sym, ap, ap₂, ◌∙◌, le_of_suc-le-suc, not-suc-le-zero, add-zero, add-suc, zero-add}
+use Rattle.std.proofs.Common.{suc-add, arith, drop-drop, get_or-take, take_all, take_at, drop_at}
 use Rattle.std.proofs.lemmas.List.Edits.{sets, sets-eq}
 use Rattle.std.proofs.Math.Seq.{drop-append-add}
 use Rattle.calls.specs.LentMemory.{overwrite, overwrite_from, written_over, unless_refused, SameWritten}

@@ -1,4 +1,5 @@
--- Signed numbers as the machine sees them: a local z of 32 bits stands as to_z w32 (of_z w32 z), and its copy in 64 bits
+-- Signed numbers as the machine sees them: a local z of 32 bits stands as to_z w32 (of_z w32 z), and its copy in 64
+-- bits
 -- as to_z w64 (of_z w64 ..) of that; a local of 16 bits and its copy in 32 bits likewise.
 use Prim.Native.Nat.{ℕ, zero, suc, ◌≤◌}
 use mathlib.Core.Path.{◌≡◌, ◌∙◌}

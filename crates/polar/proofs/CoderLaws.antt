@@ -1,7 +1,9 @@
 -- What the coder and the read-out do together: coding twice returns the message, coding is linear, and the read-out of
 -- u is the message.
-use Rattle.std.specs.Prelude.{ℕ, zero, suc, ◌+◌, ◌^◌, ◌≤◌, ◌<◌, ◌≡◌, refl, Bool, true, false, List, [], ◌∷◌, ◌++◌, leb, length, get_or, take}
-use Rattle.std.proofs.Common.{sym, ap, ap₂, ◌∙◌, append-nil, add-zero, add-one, arith, take-suc, get_or-take, le-leb, leb-true}
+use Rattle.std.specs.Prelude.{ℕ, zero, suc, ◌+◌, ◌^◌, ◌≤◌, ◌<◌, ◌≡◌, refl, Bool, true, false, List, [], ◌∷◌, ◌++◌, leb}
+use Rattle.std.specs.Prelude.{length, get_or, take}
+use Rattle.std.proofs.Common.{sym, ap, ap₂, ◌∙◌, append-nil, add-zero, add-one, arith, take-suc, get_or-take, le-leb}
+use Rattle.std.proofs.Common.{leb-true}
 use Rattle.calls.specs.Bounds.{largest_m}
 use Rattle.calls.specs.Numbers.{check}
 use Rattle.calls.specs.EveryLaws.{every_of}
@@ -139,7 +141,8 @@ by-kind-xor : (b : ℕ) (x y : Bool)
 by-kind-xor zero x y = refl
 by-kind-xor (suc b) x y = refl
 
-pub encode-linear : (m : ℕ) (mask a b sum : List ℕ) → ((k : ℕ) → bits_of sum k ≡ xor (bits_of a k) (bits_of b k)) → (i : ℕ)
+pub encode-linear : (m : ℕ) (mask a b sum : List ℕ) → ((k : ℕ) → bits_of sum k ≡ xor (bits_of a k) (bits_of b k))
+    → (i : ℕ)
     → coded m (u_bit mask sum) i ≡ xor (coded m (u_bit mask a) i) (coded m (u_bit mask b) i)
 encode-linear m mask a b sum h i =
     coded-same m i (u_bit mask sum) (λ j. xor (u_bit mask a j) (u_bit mask b j))
@@ -179,8 +182,10 @@ information-back mask message bytes (suc n) is h =
     (information-back mask message bytes n (λ i l. is i (omega arith))
     (message-less message (information_count mask n) _ h)) (get_or mask n 0) refl h
 
-module _ (code : Code) (mask message bytes old : List ℕ) (room : ℕ) (accepted : encode_number code mask message room ≡ 0)
-    (long : 2 ^ code.m ≤ length bytes) (is : (i : ℕ) → i < 2 ^ code.m → get_or bytes i 0 ≡ byte_of (u_bit mask message i))
+module _ (code : Code) (mask message bytes old : List ℕ) (room : ℕ)
+    (accepted : encode_number code mask message room ≡ 0)
+    (long : 2 ^ code.m ≤ length bytes)
+    (is : (i : ℕ) → i < 2 ^ code.m → get_or bytes i 0 ≡ byte_of (u_bit mask message i))
     (fits : information_count mask (2 ^ code.m) ≤ length old) where
   encoded : CodeAccepted code mask room × MessageAccepted message (information_count mask (2 ^ code.m))
   encoded = encode-accepted code mask message room accepted

@@ -138,7 +138,8 @@ module _ (mask bytes : List ℕ) where
       rw e
       (ap (λ (l : List ℕ). get_or (information_bytes mask bytes n ++ l) (information_count mask n) 0)
       (kind-information (get_or bytes n 0 ∷ []) (λ bit. []) (get_or mask n 0) here)
-      ∙ get_or_at (information_bytes mask bytes n) (get_or bytes n 0) [] 0 (information_count mask n) (information-length n)))
+      ∙ get_or_at (information_bytes mask bytes n) (get_or bytes n 0) [] 0 (information_count mask n)
+      (information-length n)))
       (λ l. get_or-append (information_bytes mask bytes n) _ 0 (information_count mask i)
       (omega (arith, information-length n, count-lt mask i n z l)) ∙ information-at n i z l)
       (eq-or-lt_of_le (le_of_suc-le-suc h))

@@ -1,6 +1,7 @@
 -- Laws of one binary digit: the mask test, and the runs of 2 ^ t positions that share their digit of weight 2 ^ t.
 use Rattle.std.specs.Prelude.{ℕ, zero, suc, ◌+◌, ◌-◌, ◌*◌, ◌/◌, ◌%◌, ◌^◌, ◌≤◌, ◌<◌, ◌≡◌, refl, Bool}
-use Rattle.std.proofs.Common.{sym, ap, ap₂, ◌∙◌, subst, zero-mul, one-mul, suc-mul, add-mul, mul-le-mul_right, div-lt_iff_lt-mul, le-div_iff_mul-le, mod-lt, pow-suc, mul_comm, arith, pow_pos, pow-add}
+use Rattle.std.proofs.Common.{sym, ap, ap₂, ◌∙◌, subst, zero-mul, one-mul, suc-mul, add-mul, mul-le-mul_right}
+use Rattle.std.proofs.Common.{div-lt_iff_lt-mul, le-div_iff_mul-le, mod-lt, pow-suc, mul_comm, arith, pow_pos, pow-add}
 use Rattle.std.specs.Int.Bits.{bit_and}
 use Rattle.std.proofs.lemmas.Nat.Bits.{and_high}
 use Rattle.std.proofs.Math.Pow.{high, split}

@@ -1,4 +1,5 @@
--- Laws of the mask's bytes: what `by_kind` gives at an information position and at a frozen one, how a turned sign comes
+-- Laws of the mask's bytes: what `by_kind` gives at an information position and at a frozen one, how a turned sign
+-- comes
 -- out of it, and tests of every information position.
 use Rattle.std.specs.Prelude.{ℕ, zero, suc, ◌<◌, ◌≡◌, refl, Bool, true, false, List, eqb, ℤ, get_or}
 use Rattle.std.proofs.Common.{sym, ap, true≢false}
@@ -20,7 +21,8 @@ use Rattle.polar.specs.Mask.{
 }
 
 module _ {A : Type 0} (at_information : A) (at_frozen : Bool → A) where
-  pub kind-information : (byte : ℕ) → is_information byte ≡ true → by_kind byte at_information at_frozen ≡ at_information
+  pub kind-information : (byte : ℕ) → is_information byte ≡ true
+      → by_kind byte at_information at_frozen ≡ at_information
   kind-information byte = go (kind_of byte)
     where
       go : (k : Kind) → on_kind k true (λ bit. false) ≡ true → on_kind k at_information at_frozen ≡ at_information

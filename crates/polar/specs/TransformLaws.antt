@@ -1,6 +1,7 @@
 -- Laws of the transform, over m: the columns end in the closed form, coding twice gives back what was coded, coding is
 -- linear. All go by halves: the even positions of a block of 2 ^ (m + 1), and its odd ones, are blocks of 2 ^ m.
-use Rattle.std.specs.Prelude.{ℕ, zero, suc, ◌+◌, ◌-◌, ◌*◌, ◌/◌, ◌%◌, ◌^◌, ◌≤◌, ◌<◌, ◌≡◌, refl, Bool, true, false, ◌&&◌, eqb}
+use Rattle.std.specs.Prelude.{ℕ, zero, suc, ◌+◌, ◌-◌, ◌*◌, ◌/◌, ◌%◌, ◌^◌, ◌≤◌, ◌<◌, ◌≡◌, refl, Bool, true, false, ◌&&◌}
+use Rattle.std.specs.Prelude.{eqb}
 use Rattle.std.proofs.Common.{sym, ap, ap₂, ◌∙◌, subst, pow-suc, one-add, arith, shr-shr, eq-eqb, ne_eqb, eqb-true}
 use Rattle.std.proofs.Math.Path.{fun_ext}
 use Rattle.std.proofs.Math.Arith.{lt-one}

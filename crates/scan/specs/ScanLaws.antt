@@ -1,7 +1,9 @@
 -- The definitions at the text from a position on, in the terms of a reader that keeps a position; and the sizes of what
 -- is read.
-use Rattle.std.specs.Prelude.{ℕ, zero, suc, ◌+◌, ◌-◌, ◌*◌, ◌<◌, ◌≤◌, ◌≡◌, refl, Bool, true, false, cond, ◌&&◌, List, [], ◌∷◌, ◌++◌, leb, eqb, ℤ, pos, neg_ℤ, nat_abs, length, get_or, drop, take, set}
-use Rattle.std.proofs.Common.{sym, ap, ◌∙◌, true≢false, append_assoc, arith, add-one, sub-one, leb-true, drop_of_length-le, drop-cons, take-suc-set}
+use Rattle.std.specs.Prelude.{ℕ, zero, suc, ◌+◌, ◌-◌, ◌*◌, ◌<◌, ◌≤◌, ◌≡◌, refl, Bool, true, false, cond, ◌&&◌, List, []}
+use Rattle.std.specs.Prelude.{◌∷◌, ◌++◌, leb, eqb, ℤ, pos, neg_ℤ, nat_abs, length, get_or, drop, take, set}
+use Rattle.std.proofs.Common.{sym, ap, ◌∙◌, true≢false, append_assoc, arith, add-one, sub-one, leb-true}
+use Rattle.std.proofs.Common.{drop_of_length-le, drop-cons, take-suc-set}
 use Rattle.std.proofs.lemmas.List.Edits.{sets}
 use Rattle.calls.specs.LentMemory.{written_over}
 use Rattle.calls.specs.LentMemoryLaws.{written-sets, written_behind}

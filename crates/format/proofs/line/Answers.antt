@@ -18,10 +18,12 @@ pub value-end-requires : goal.value-end-requires
 value-end-requires c =
     let i : ℕ = c.loop-i.i in
     let values : List ℤ = c.args.zs.now in
-    let known : to_z w32 (of_z w32 (get_or values i (pos 0))) ≡ get_or values i (pos 0) = to_z-of_z {w = w32} (record { sfits = search rules }) in
+    let known : to_z w32 (of_z w32 (get_or values i (pos 0))) ≡ get_or values i (pos 0) =
+    to_z-of_z {w = w32} (record { sfits = search rules }) in
     let left : List ℕ = line (drop (i + 1) values) in
     let piece : List ℕ = shown (get_or values i (pos 0)) ++ (c.separator.result ∷ []) in
-    let next : line (drop i values) ≡ piece ++ left = line-next values i c.separator.result c.loop-i-test.true c.separator.ensures in
+    let next : line (drop i values) ≡ piece ++ left =
+    line-next values i c.separator.result c.loop-i-test.true c.separator.ensures in
     let l = c.loop-i in
     rw (known)
     (writing-room (piece) (left) l.invariant.1 (next) c.requires)
@@ -30,10 +32,12 @@ pub loop-i-preserved : goal.loop-i-preserved
 loop-i-preserved c =
     let i : ℕ = c.loop-i.i in
     let values : List ℤ = c.args.zs.now in
-    let known : to_z w32 (of_z w32 (get_or values i (pos 0))) ≡ get_or values i (pos 0) = to_z-of_z {w = w32} (record { sfits = search rules }) in
+    let known : to_z w32 (of_z w32 (get_or values i (pos 0))) ≡ get_or values i (pos 0) =
+    to_z-of_z {w = w32} (record { sfits = search rules }) in
     let left : List ℕ = line (drop (i + 1) values) in
     let piece : List ℕ = shown (get_or values i (pos 0)) ++ (c.separator.result ∷ []) in
-    let next : line (drop i values) ≡ piece ++ left = line-next values i c.separator.result c.loop-i-test.true c.separator.ensures in
+    let next : line (drop i values) ≡ piece ++ left =
+    line-next values i c.separator.result c.loop-i-test.true c.separator.ensures in
     let w = rw (known) at c.value-end.ensures in
     (omega arith, writing-next c.loop-i.invariant.1 (next) w)
 

@@ -28,7 +28,8 @@ unfolding refusal_text
 line-requires c =
     let number : ℕ = refusal_number c.args.refusal in
     let small : c.number-number.result ≤ 99 = rw c.number-number.ensures (refusal-digits c.args.refusal) in
-    let number_is : to_z w32 c.number-number.result ≡ pos number = natural-held c.number-number.result (omega (arith, small)) ∙ ap pos c.number-number.ensures in
+    let number_is : to_z w32 c.number-number.result ≡ pos number =
+    natural-held c.number-number.result (omega (arith, small)) ∙ ap pos c.number-number.ensures in
     rw (number_is) (wrote-room (line (pos (number) ∷ [])) c.copy-end.ensures
     (omega (arith, c.requires)))
 
@@ -37,7 +38,8 @@ unfolding refusal_text
 returns c =
     let number : ℕ = refusal_number c.args.refusal in
     let small : c.number-number.result ≤ 99 = rw c.number-number.ensures (refusal-digits c.args.refusal) in
-    let number_is : to_z w32 c.number-number.result ≡ pos number = natural-held c.number-number.result (omega (arith, small)) ∙ ap pos c.number-number.ensures in
+    let number_is : to_z w32 c.number-number.result ≡ pos number =
+    natural-held c.number-number.result (omega (arith, small)) ∙ ap pos c.number-number.ensures in
     let first = c.copy-end in
     let last = c.line in
     wrote_then first.ensures

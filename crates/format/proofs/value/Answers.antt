@@ -7,5 +7,6 @@ use Rattle.format.proofs.value.Goals as goal
 
 pub returns : goal.returns
 returns c =
-    let wrote : Wrote c.args.out.now c.args.at (shown c.args.z) c.number-end.new.out c.number-end.result = rw (to_z-of_z c.ranges.z) at c.number-end.ensures in
+    let wrote : Wrote c.args.out.now c.args.at (shown c.args.z) c.number-end.new.out c.number-end.result =
+    rw (to_z-of_z c.ranges.z) at c.number-end.ensures in
     wrote_then (wrote) wrote-byte

@@ -1,6 +1,6 @@
 -- `butterflies` meets its contract: the first p positions, whole runs of d, are as the step makes them.
-use Prim.Native.Nat.{◌≤◌, ◌-◌, ◌+◌, ◌^◌}
-use mathlib.Core.Path.{◌≡◌, ◌∙◌}
+use Prim.Native.Nat.{◌≤◌, ◌+◌, ◌^◌}
+use mathlib.Core.Path.{◌∙◌}
 use native.Mathlib.Omega.{arith}
 use borrow.Author.Rules.{rules}
 use Rattle.polar.specs.DigitLaws.{mask-clear, mask-set, run_fits}
@@ -19,7 +19,8 @@ join-requires-clause-multiple c = distance-sixteens _ _ c.loop-p.invariant.1
 
 pub loop-p-preserved : goal.loop-p-preserved
 loop-p-preserved c =
-    let fits : c.loop-p.p + 2 ^ c.args.t ≤ 2 ^ c.args.m = run_fits _ _ c.loop-p.invariant.3.runs _ c.requires.m_le_largest_m.1 (omega arith) in
+    let fits : c.loop-p.p + 2 ^ c.args.t ≤ 2 ^ c.args.m =
+    run_fits _ _ c.loop-p.invariant.3.runs _ c.requires.m_le_largest_m.1 (omega arith) in
     let h = c.loop-p.invariant in (
       h.0,
       h.1,

@@ -8,6 +8,7 @@ use Rattle.polar.proofs.encode_refusal.Goals as goal
 
 pub information_count-requires : goal.information_count-requires
 information_count-requires c =
-    let passed : code_number c.args.code c.args.mask.now c.args.room ≡ 0 = sym c.code_refusal.ensures ∙ ap number_of c.in-Done.is in
+    let passed : code_number c.args.code c.args.mask.now c.args.room ≡ 0 = sym c.code_refusal.ensures
+    ∙ ap number_of c.in-Done.is in
     let accepted : CodeAccepted c.args.code c.args.mask.now c.args.room = code-accepted _ _ _ passed in
     rw c.power_of_two.ensures ((accepted).mask-long, pow_mono (accepted).size)

@@ -1,5 +1,5 @@
 -- `first_steps` meets its contract: after s steps the block holds column s.
-use Prim.Native.Nat.{◌-◌, zero-le}
+use Prim.Native.Nat.{zero-le}
 use native.Mathlib.Omega.{arith}
 use Rattle.polar.proofs.Steps.{columned-none, columned-bits, columned-next}
 use Rattle.polar.proofs.first_steps.Goals as goal

@@ -1,5 +1,4 @@
 -- `information_count` meets its contract.
-use Prim.Native.Nat.{◌-◌}
 use native.Mathlib.Omega.{arith}
 use Rattle.polar.proofs.Loops.{count-le}
 use Rattle.polar.proofs.information_count.Goals as goal

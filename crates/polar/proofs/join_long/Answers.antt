@@ -1,5 +1,5 @@
 -- `join_long` meets its contract: the first i positions of the run, whole sixteens, are joined.
-use Prim.Native.Nat.{◌≤◌, ◌-◌, ◌+◌, zero-le}
+use Prim.Native.Nat.{◌≤◌, ◌+◌, zero-le}
 use native.Mathlib.Omega.{arith}
 use Rattle.polar.specs.DigitLaws.{multiple-none, multiple-next}
 use Rattle.polar.proofs.Sixteens.{sixteen-fits}

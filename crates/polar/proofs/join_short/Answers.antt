@@ -1,5 +1,5 @@
 -- `join_short` meets its contract.
-use Prim.Native.Nat.{◌-◌, zero-le}
+use Prim.Native.Nat.{zero-le}
 use native.Mathlib.Omega.{arith}
 use Rattle.polar.proofs.Steps.{joined-none, joined-next}
 use Rattle.polar.proofs.join_short.Goals as goal

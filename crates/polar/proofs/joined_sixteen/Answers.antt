@@ -1,5 +1,4 @@
 -- `joined_sixteen` meets its contract: the first j are in the array.
-use Prim.Native.Nat.{◌-◌}
 use native.Mathlib.Omega.{arith}
 use Rattle.polar.proofs.Sixteens.{in-array-next, in-array-all}
 use Rattle.polar.proofs.joined_sixteen.Goals as goal

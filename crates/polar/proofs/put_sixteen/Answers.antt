@@ -1,5 +1,5 @@
 -- `put_sixteen` meets its contract: the first j are written.
-use Prim.Native.Nat.{◌-◌, zero-le}
+use Prim.Native.Nat.{zero-le}
 use native.Mathlib.Omega.{arith}
 use Rattle.polar.proofs.Sixteens.{put-none, put_next}
 use Rattle.polar.proofs.put_sixteen.Goals as goal

@@ -8,7 +8,8 @@ use Rattle.polar.proofs.transform.Goals as goal
 
 pub last_steps-requires-clause-bits : goal.last_steps-requires-clause-bits
 last_steps-requires-clause-bits c =
-    let columned : Columned c.args.m (c.args.m - 4) c.args.block.now c.first_steps-else-m-lt4.new.block = record { is = c.first_steps-else-m-lt4.ensures } in
+    let columned : Columned c.args.m (c.args.m - 4) c.args.block.now c.first_steps-else-m-lt4.new.block =
+    record { is = c.first_steps-else-m-lt4.ensures } in
     let sixteen : 4 ≤ c.args.m = omega arith in
     (columned-bits (columned) c.requires.bits)
 
@@ -19,7 +20,8 @@ returns-then-m-lt4 c =
 
 pub returns-else-m-lt4 : goal.returns-else-m-lt4
 returns-else-m-lt4 c =
-    let columned : Columned c.args.m (c.args.m - 4) c.args.block.now c.first_steps-else-m-lt4.new.block = record { is = c.first_steps-else-m-lt4.ensures } in
+    let columned : Columned c.args.m (c.args.m - 4) c.args.block.now c.first_steps-else-m-lt4.new.block =
+    record { is = c.first_steps-else-m-lt4.ensures } in
     let sixteen : 4 ≤ c.args.m = omega arith in
     columned-recoded _ _ _ _ c.requires.bits (sixteen) (columned)
     c.last_steps.ensures

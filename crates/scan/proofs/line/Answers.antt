@@ -12,7 +12,9 @@ use Rattle.scan.specs.Numbers.{number}
 use Rattle.scan.specs.Lines.{line}
 use Rattle.calls.specs.LentMemory.{written_over}
 use Rattle.scan.specs.Answers.{value_read, read_to, values_stored}
-use Rattle.scan.specs.ScanLaws.{behind, behind-stored, line-none, line-no-number, line-no-separator, line-next, stored-over, stored-none, stored-no-number, stored-no-separator, stored_next, number_size}
+use Rattle.scan.specs.ScanLaws.{behind, behind-stored, line-none, line-no-number, line-no-separator, line-next}
+use Rattle.scan.specs.ScanLaws.{stored-over, stored-none, stored-no-number, stored-no-separator, stored_next}
+use Rattle.scan.specs.ScanLaws.{number_size}
 use lib.Signed.{mag}
 use mir.Syntax.{w32}
 use mir.Val.{hbits}
@@ -21,32 +23,56 @@ use Rattle.scan.proofs.line.Goals as goal
 
 pub returns-in_default-clause-text_value : goal.returns-in_default-clause-text_value
 returns-in_default-clause-text_value c =
-    let whole : let a = c.args in values_stored c.loop-left.left (drop c.loop-left.p a.text.now) ≡ [] → c.loop-left.values ≡ written_over (values_stored a.count (drop a.at a.text.now)) a.values.now = λ e. let a = c.args in ap (sets c.loop-left.values c.loop-left.i) (sym e) ∙ c.loop-left.invariant.4 ∙ stored-over a.count (drop a.at a.text.now) a.values.now c.requires.1 in
-    let l = c.loop-left in let t = c.args.text.now in let e = c.number-read.ensures.text_value ∙ ap (value_read t) c.in_default.is in let test = c.loop-left-test.true in (l.invariant.2 ∙ ap (behind (take l.i l.values)) (line-no-number l.left (drop l.p t) test e))
+    let whole : let a = c.args in values_stored c.loop-left.left (drop c.loop-left.p a.text.now) ≡ []
+    → c.loop-left.values ≡ written_over (values_stored a.count (drop a.at a.text.now)) a.values.now = λ e. let a =
+    c.args in ap (sets c.loop-left.values c.loop-left.i) (sym e) ∙ c.loop-left.invariant.4
+    ∙ stored-over a.count (drop a.at a.text.now) a.values.now c.requires.1 in
+    let l = c.loop-left in let t = c.args.text.now in let e = c.number-read.ensures.text_value
+    ∙ ap (value_read t) c.in_default.is in let test = c.loop-left-test.true in
+    (l.invariant.2 ∙ ap (behind (take l.i l.values)) (line-no-number l.left (drop l.p t) test e))
 
 pub returns-in_default-clause-values_after : goal.returns-in_default-clause-values_after
 returns-in_default-clause-values_after c =
-    let whole : let a = c.args in values_stored c.loop-left.left (drop c.loop-left.p a.text.now) ≡ [] → c.loop-left.values ≡ written_over (values_stored a.count (drop a.at a.text.now)) a.values.now = λ e. let a = c.args in ap (sets c.loop-left.values c.loop-left.i) (sym e) ∙ c.loop-left.invariant.4 ∙ stored-over a.count (drop a.at a.text.now) a.values.now c.requires.1 in
-    let l = c.loop-left in let t = c.args.text.now in let e = c.number-read.ensures.text_value ∙ ap (value_read t) c.in_default.is in let test = c.loop-left-test.true in (whole (stored-no-number l.left (drop l.p t) test e))
+    let whole : let a = c.args in values_stored c.loop-left.left (drop c.loop-left.p a.text.now) ≡ []
+    → c.loop-left.values ≡ written_over (values_stored a.count (drop a.at a.text.now)) a.values.now = λ e. let a =
+    c.args in ap (sets c.loop-left.values c.loop-left.i) (sym e) ∙ c.loop-left.invariant.4
+    ∙ stored-over a.count (drop a.at a.text.now) a.values.now c.requires.1 in
+    let l = c.loop-left in let t = c.args.text.now in let e = c.number-read.ensures.text_value
+    ∙ ap (value_read t) c.in_default.is in let test = c.loop-left-test.true in
+    (whole (stored-no-number l.left (drop l.p t) test e))
 
 pub returns-in_default-parted-clause-text_value : goal.returns-in_default-parted-clause-text_value
 returns-in_default-parted-clause-text_value c =
     let text : List ℕ = c.args.text.now in
-    let read : number (drop c.loop-left.p text) ≡ found c.in-Found.value (drop c.in-Found.behind text) = c.number-read.ensures.text_value ∙ ap (value_read text) c.in-Found.is in
-    let whole : let a = c.args in values_stored c.loop-left.left (drop c.loop-left.p a.text.now) ≡ [] → c.loop-left.values ≡ written_over (values_stored a.count (drop a.at a.text.now)) a.values.now = λ e. let a = c.args in ap (sets c.loop-left.values c.loop-left.i) (sym e) ∙ c.loop-left.invariant.4 ∙ stored-over a.count (drop a.at a.text.now) a.values.now c.requires.1 in
-    let l = c.loop-left in let t = text in let e = c.separator-parted.ensures.text_value ∙ ap (read_to t tt) c.in_default-parted.is in let test = c.loop-left-test.true in (l.invariant.2 ∙ ap (behind (take l.i l.values)) (line-no-separator l.left (drop l.p t) test c.in-Found.value (drop c.in-Found.behind t) (read) e))
+    let read : number (drop c.loop-left.p text) ≡ found c.in-Found.value (drop c.in-Found.behind text) =
+    c.number-read.ensures.text_value ∙ ap (value_read text) c.in-Found.is in
+    let whole : let a = c.args in values_stored c.loop-left.left (drop c.loop-left.p a.text.now) ≡ []
+    → c.loop-left.values ≡ written_over (values_stored a.count (drop a.at a.text.now)) a.values.now = λ e. let a =
+    c.args in ap (sets c.loop-left.values c.loop-left.i) (sym e) ∙ c.loop-left.invariant.4
+    ∙ stored-over a.count (drop a.at a.text.now) a.values.now c.requires.1 in
+    let l = c.loop-left in let t = text in let e = c.separator-parted.ensures.text_value
+    ∙ ap (read_to t tt) c.in_default-parted.is in let test = c.loop-left-test.true in
+    (l.invariant.2 ∙ ap (behind (take l.i l.values))
+    (line-no-separator l.left (drop l.p t) test c.in-Found.value (drop c.in-Found.behind t) (read) e))
 
 pub returns-in_default-parted-clause-values_after : goal.returns-in_default-parted-clause-values_after
 returns-in_default-parted-clause-values_after c =
     let text : List ℕ = c.args.text.now in
-    let read : number (drop c.loop-left.p text) ≡ found c.in-Found.value (drop c.in-Found.behind text) = c.number-read.ensures.text_value ∙ ap (value_read text) c.in-Found.is in
-    let whole : let a = c.args in values_stored c.loop-left.left (drop c.loop-left.p a.text.now) ≡ [] → c.loop-left.values ≡ written_over (values_stored a.count (drop a.at a.text.now)) a.values.now = λ e. let a = c.args in ap (sets c.loop-left.values c.loop-left.i) (sym e) ∙ c.loop-left.invariant.4 ∙ stored-over a.count (drop a.at a.text.now) a.values.now c.requires.1 in
-    let l = c.loop-left in let t = text in let e = c.separator-parted.ensures.text_value ∙ ap (read_to t tt) c.in_default-parted.is in let test = c.loop-left-test.true in (whole (stored-no-separator l.left (drop l.p t) test c.in-Found.value (drop c.in-Found.behind t) (read) e))
+    let read : number (drop c.loop-left.p text) ≡ found c.in-Found.value (drop c.in-Found.behind text) =
+    c.number-read.ensures.text_value ∙ ap (value_read text) c.in-Found.is in
+    let whole : let a = c.args in values_stored c.loop-left.left (drop c.loop-left.p a.text.now) ≡ []
+    → c.loop-left.values ≡ written_over (values_stored a.count (drop a.at a.text.now)) a.values.now = λ e. let a =
+    c.args in ap (sets c.loop-left.values c.loop-left.i) (sym e) ∙ c.loop-left.invariant.4
+    ∙ stored-over a.count (drop a.at a.text.now) a.values.now c.requires.1 in
+    let l = c.loop-left in let t = text in let e = c.separator-parted.ensures.text_value
+    ∙ ap (read_to t tt) c.in_default-parted.is in let test = c.loop-left-test.true in
+    (whole (stored-no-separator l.left (drop l.p t) test c.in-Found.value (drop c.in-Found.behind t) (read) e))
 
 pub loop-left-preserved : goal.loop-left-preserved
 loop-left-preserved c =
     let text : List ℕ = c.args.text.now in
-    let read : number (drop c.loop-left.p text) ≡ found c.in-Found.value (drop c.in-Found.behind text) = c.number-read.ensures.text_value ∙ ap (value_read text) c.in-Found.is in
+    let read : number (drop c.loop-left.p text) ≡ found c.in-Found.value (drop c.in-Found.behind text) =
+    c.number-read.ensures.text_value ∙ ap (value_read text) c.in-Found.is in
     let l = c.loop-left in
     let a = c.args in
     let t = text in
@@ -72,10 +98,18 @@ loop-left-preserved c =
 
 pub returns-clause-text_value : goal.returns-clause-text_value
 returns-clause-text_value c =
-    let whole : let a = c.args in values_stored c.loop-left.left (drop c.loop-left.p a.text.now) ≡ [] → c.loop-left.values ≡ written_over (values_stored a.count (drop a.at a.text.now)) a.values.now = λ e. let a = c.args in ap (sets c.loop-left.values c.loop-left.i) (sym e) ∙ c.loop-left.invariant.4 ∙ stored-over a.count (drop a.at a.text.now) a.values.now c.requires.1 in
-    let l = c.loop-left in let a = c.args in let s = drop l.p a.text.now in let e : l.i ≡ a.count = omega arith in (l.invariant.2 ∙ rw (line-none l.left s c.loop-left-test.false, append-nil (take l.i l.values), e))
+    let whole : let a = c.args in values_stored c.loop-left.left (drop c.loop-left.p a.text.now) ≡ []
+    → c.loop-left.values ≡ written_over (values_stored a.count (drop a.at a.text.now)) a.values.now = λ e. let a =
+    c.args in ap (sets c.loop-left.values c.loop-left.i) (sym e) ∙ c.loop-left.invariant.4
+    ∙ stored-over a.count (drop a.at a.text.now) a.values.now c.requires.1 in
+    let l = c.loop-left in let a = c.args in let s = drop l.p a.text.now in let e : l.i ≡ a.count = omega arith in
+    (l.invariant.2 ∙ rw (line-none l.left s c.loop-left-test.false, append-nil (take l.i l.values), e))
 
 pub returns-clause-values_after : goal.returns-clause-values_after
 returns-clause-values_after c =
-    let whole : let a = c.args in values_stored c.loop-left.left (drop c.loop-left.p a.text.now) ≡ [] → c.loop-left.values ≡ written_over (values_stored a.count (drop a.at a.text.now)) a.values.now = λ e. let a = c.args in ap (sets c.loop-left.values c.loop-left.i) (sym e) ∙ c.loop-left.invariant.4 ∙ stored-over a.count (drop a.at a.text.now) a.values.now c.requires.1 in
-    let l = c.loop-left in let a = c.args in let s = drop l.p a.text.now in let e : l.i ≡ a.count = omega arith in (whole (stored-none l.left s c.loop-left-test.false))
+    let whole : let a = c.args in values_stored c.loop-left.left (drop c.loop-left.p a.text.now) ≡ []
+    → c.loop-left.values ≡ written_over (values_stored a.count (drop a.at a.text.now)) a.values.now = λ e. let a =
+    c.args in ap (sets c.loop-left.values c.loop-left.i) (sym e) ∙ c.loop-left.invariant.4
+    ∙ stored-over a.count (drop a.at a.text.now) a.values.now c.requires.1 in
+    let l = c.loop-left in let a = c.args in let s = drop l.p a.text.now in let e : l.i ≡ a.count = omega arith in
+    (whole (stored-none l.left s c.loop-left-test.false))

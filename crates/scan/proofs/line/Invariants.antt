@@ -12,7 +12,8 @@ invariant-loop-left l = (l.i + l.left ≡ l.count)
     × (length l.values ≡ length l.initial.values)
     × (line l.count (drop l.at l.text) ≡ behind (take l.i l.values) (line l.left (drop l.p l.text)))
     × (l.p ≤ length l.text)
-    × (sets l.values l.i (values_stored l.left (drop l.p l.text)) ≡ sets l.initial.values 0 (values_stored l.count (drop l.at l.text)))
+    × (sets l.values l.i (values_stored l.left (drop l.p l.text))
+    ≡ sets l.initial.values 0 (values_stored l.count (drop l.at l.text)))
 
 abbrev pub decreases-loop-left : goal.decreases-loop-left
 decreases-loop-left l = l.left

@@ -7,11 +7,14 @@ use Rattle.scan.proofs.literal.Goals as goal
 
 pub returns-then-text-p-clause-text_value : goal.returns-then-text-p-clause-text_value
 returns-then-text-p-clause-text_value c =
-    let l = c.loop-matched in let a = c.args in (l.invariant.0 ∙ literal-short a.name.now l.matched a.text.now l.p c.loop-matched-test.true c.if-text-p.true)
+    let l = c.loop-matched in let a = c.args in
+    (l.invariant.0 ∙ literal-short a.name.now l.matched a.text.now l.p c.loop-matched-test.true c.if-text-p.true)
 
 pub returns-then-not-same_byte-clause-text_value : goal.returns-then-not-same_byte-clause-text_value
 returns-then-not-same_byte-clause-text_value c =
-    let l = c.loop-matched in let a = c.args in (l.invariant.0 ∙ literal-next a.name.now l.matched a.text.now l.p c.loop-matched-test.true c.if-text-p.false ∙ rw (← c.same_byte.ensures, c.if-not-same_byte.true))
+    let l = c.loop-matched in let a = c.args in
+    (l.invariant.0 ∙ literal-next a.name.now l.matched a.text.now l.p c.loop-matched-test.true c.if-text-p.false
+    ∙ rw (← c.same_byte.ensures, c.if-not-same_byte.true))
 
 pub loop-matched-preserved : goal.loop-matched-preserved
 loop-matched-preserved c =

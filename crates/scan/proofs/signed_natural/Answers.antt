@@ -21,7 +21,9 @@ overflow_cast-value c =
     let text : List ℕ = c.args.text.now in
     let here : List ℕ = drop c.args.at text in
     let r : Natural = c.digits-size.result in
-    let read : natural 6 here ≡ found r.value (drop r.next text) = natural-found 6 here r.value (drop r.next text) (rw (← c.byte_at.ensures, ← c.is_digit.ensures) c.if-is_digit.true) c.digits-size.ensures.text_value in
+    let read : natural 6 here ≡ found r.value (drop r.next text) =
+    natural-found 6 here r.value (drop r.next text)
+    (rw (← c.byte_at.ensures, ← c.is_digit.ensures) c.if-is_digit.true) c.digits-size.ensures.text_value in
     let small : r.value ≤ 999999 = natural-size here r.value (drop r.next text) read in
     six-digits-fit (pos c.digits-size.result.value) (small)
 
@@ -30,9 +32,12 @@ overflow_sub-result c =
     let r : Natural = c.digits-size.result in
     let text : List ℕ = c.args.text.now in
     let here : List ℕ = drop c.args.at text in
-    let read : natural 6 here ≡ found r.value (drop r.next text) = natural-found 6 here r.value (drop r.next text) (rw (← c.byte_at.ensures, ← c.is_digit.ensures) c.if-is_digit.true) c.digits-size.ensures.text_value in
+    let read : natural 6 here ≡ found r.value (drop r.next text) =
+    natural-found 6 here r.value (drop r.next text)
+    (rw (← c.byte_at.ensures, ← c.is_digit.ensures) c.if-is_digit.true) c.digits-size.ensures.text_value in
     let small : r.value ≤ 999999 = natural-size here r.value (drop r.next text) read in
-    let negated_fits : SFits w32 (neg_ℤ (pos r.value)) = six-digits-fit (neg_ℤ (pos r.value)) (omega (arith, size-neg (pos r.value), small)) in
+    let negated_fits : SFits w32 (neg_ℤ (pos r.value)) =
+    six-digits-fit (neg_ℤ (pos r.value)) (omega (arith, size-neg (pos r.value), small)) in
     let plain : to_z w32 r.value ≡ pos r.value = to_z_pos w32 (omega (arith, small)) in
     simp (plain, +ℤ_idl) (negated_fits)
 
@@ -41,9 +46,12 @@ returns-then-negative-clause-s_value c =
     let r : Natural = c.digits-size.result in
     let text : List ℕ = c.args.text.now in
     let here : List ℕ = drop c.args.at text in
-    let read : natural 6 here ≡ found r.value (drop r.next text) = natural-found 6 here r.value (drop r.next text) (rw (← c.byte_at.ensures, ← c.is_digit.ensures) c.if-is_digit.true) c.digits-size.ensures.text_value in
+    let read : natural 6 here ≡ found r.value (drop r.next text) =
+    natural-found 6 here r.value (drop r.next text)
+    (rw (← c.byte_at.ensures, ← c.is_digit.ensures) c.if-is_digit.true) c.digits-size.ensures.text_value in
     let small : r.value ≤ 999999 = natural-size here r.value (drop r.next text) read in
-    let negated_fits : SFits w32 (neg_ℤ (pos r.value)) = six-digits-fit (neg_ℤ (pos r.value)) (omega (arith, size-neg (pos r.value), small)) in
+    let negated_fits : SFits w32 (neg_ℤ (pos r.value)) =
+    six-digits-fit (neg_ℤ (pos r.value)) (omega (arith, size-neg (pos r.value), small)) in
     let plain : to_z w32 r.value ≡ pos r.value = to_z_pos w32 (omega (arith, small)) in
     simp (read, plain, +ℤ_idl, to_z-of_z negated_fits, c.if-negative.true)
 
@@ -52,11 +60,14 @@ returns-else-negative-clause-s_value c =
     let r : Natural = c.digits-size.result in
     let text : List ℕ = c.args.text.now in
     let here : List ℕ = drop c.args.at text in
-    let read : natural 6 here ≡ found r.value (drop r.next text) = natural-found 6 here r.value (drop r.next text) (rw (← c.byte_at.ensures, ← c.is_digit.ensures) c.if-is_digit.true) c.digits-size.ensures.text_value in
+    let read : natural 6 here ≡ found r.value (drop r.next text) =
+    natural-found 6 here r.value (drop r.next text)
+    (rw (← c.byte_at.ensures, ← c.is_digit.ensures) c.if-is_digit.true) c.digits-size.ensures.text_value in
     let small : r.value ≤ 999999 = natural-size here r.value (drop r.next text) read in
     let plain : to_z w32 r.value ≡ pos r.value = to_z_pos w32 (omega (arith, small)) in
     (simp (read, plain, c.if-negative.false))
 
 pub returns-else-is_digit-clause-s_value : goal.returns-else-is_digit-clause-s_value
 returns-else-is_digit-clause-s_value c =
-    let a = c.args in (rw (natural-missing 6 (drop a.at a.text.now) (rw (← c.byte_at.ensures, ← c.is_digit.ensures) c.if-is_digit.false)))
+    let a = c.args in (rw
+    (natural-missing 6 (drop a.at a.text.now) (rw (← c.byte_at.ensures, ← c.is_digit.ensures) c.if-is_digit.false)))

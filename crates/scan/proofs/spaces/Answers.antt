@@ -9,7 +9,9 @@ use Rattle.scan.proofs.spaces.Goals as goal
 
 pub loop-p-preserved : goal.loop-p-preserved
 loop-p-preserved c =
-    let in-text : c.loop-p.p < length c.args.text.now = let e = eqb-true c.byte_at.result 32 (sym c.is_space.ensures ∙ c.loop-p-test.true) in inside c.loop-p.p c.args.text.now (omega (arith, c.byte_at.ensures)) in
+    let in-text : c.loop-p.p < length c.args.text.now = let e =
+    eqb-true c.byte_at.result 32 (sym c.is_space.ensures ∙ c.loop-p-test.true) in
+    inside c.loop-p.p c.args.text.now (omega (arith, c.byte_at.ensures)) in
     let l = c.loop-p in (
       l.invariant.0
           ∙ spaces-next l.p c.args.text.now
@@ -19,4 +21,5 @@ loop-p-preserved c =
 
 pub returns-clause-text_value : goal.returns-clause-text_value
 returns-clause-text_value c =
-    let l = c.loop-p in (l.invariant.0 ∙ spaces-end (drop l.p c.args.text.now) (rw (← c.byte_at.ensures, ← c.is_space.ensures) c.loop-p-test.false))
+    let l = c.loop-p in (l.invariant.0
+    ∙ spaces-end (drop l.p c.args.text.now) (rw (← c.byte_at.ensures, ← c.is_space.ensures) c.loop-p-test.false))
