@@ -47,7 +47,9 @@ chunk_4-requires-clause-to_in_bounds c =
 
 pub loop-p-preserved : goal.loop-p-preserved
 loop-p-preserved c =
-    let ends : c.loop-p.p + 16 ≤ 2 ^ c.args.m = whole_run 4 c.args.m c.loop-p.p c.requires.le_m.0 c.loop-p.invariant.2 (omega arith) in
+    let ends : c.loop-p.p + 16 ≤ 2 ^ c.args.m =
+    whole_run 4 c.args.m c.loop-p.p c.requires.le_m.0 c.loop-p.invariant.2 (omega arith)
+    in
     let rows : Rows c.args.m c.args.t c.args.k c.args.x c.args.y = c.requires.rows in
     let p = c.loop-p.p in
     let h = c.loop-p.invariant in (
@@ -56,10 +58,10 @@ loop-p-preserved c =
       multiple-next h.2,
       (elim c.if-t-eq1.branch [
         | then-t-eq1 w ↦ let et : 1 ≡ c.args.t = omega (arith, w.if-t-eq1.true) in
-            chunk_next h.0 p 16 (ends) (rows) h.3 2 (ap (λ (u : ℕ). 2 ^ u) et)
+            chunk_next h.0 p 16 ends rows h.3 2 (ap (λ (u : ℕ). 2 ^ u) et)
             (subst (λ (u : ℕ). Multiple (2 ^ suc u) p) et (multiple-of 4 4 refl h.2)) (w.work-is ∙ w.chunk_2.ensures)
         | else-t-eq1 w ↦ let et : 2 ≡ c.args.t = omega (arith, w.if-t-eq1.false, c.requires.le_m) in
-            chunk_next h.0 p 16 (ends) (rows) h.3 4 (ap (λ (u : ℕ). 2 ^ u) et)
+            chunk_next h.0 p 16 ends rows h.3 4 (ap (λ (u : ℕ). 2 ^ u) et)
             (subst (λ (u : ℕ). Multiple (2 ^ suc u) p) et (multiple-of 2 8 refl h.2)) (w.work-is ∙ w.chunk_4.ensures)
       ]),
     )

@@ -39,7 +39,9 @@ join_eight-requires-clause-d_in_bounds c =
 pub loop-p-preserved : goal.loop-p-preserved
 loop-p-preserved c =
     let rows : Rows c.args.m c.args.t c.args.k c.args.x c.args.y = c.requires.rows in
-    let ends : c.loop-p.p + 8 ≤ 2 ^ c.args.m = let h = c.loop-p.invariant in run_end h.0 h.1 3 c.loop-p.p c.requires.le_t h.4 (omega arith) rows h.5 in
+    let ends : c.loop-p.p + 8 ≤ 2 ^ c.args.m =
+    let h = c.loop-p.invariant in run_end h.0 h.1 3 c.loop-p.p c.requires.le_t h.4 (omega arith) rows h.5
+    in
     let h = c.loop-p.invariant in (
       h.0,
       h.1,
@@ -47,10 +49,10 @@ loop-p-preserved c =
       omega (arith, ends),
       multiple-next h.4,
       (elim c.if-p-d-eq0.branch [
-        | then-p-d-eq0 w ↦ pairs_next h.0 h.1 3 c.loop-p.p c.requires.le_t h.4 (omega arith) (rows) h.5
+        | then-p-d-eq0 w ↦ pairs_next h.0 h.1 3 c.loop-p.p c.requires.le_t h.4 (omega arith) rows h.5
             (mask-clear _ _ _ h.1 w.if-p-d-eq0.true) (w.work-is ∙ w.join_eight.ensures)
         | else-p-d-eq0 w ↦ rw w.work-is
-            (pairs-skip h.0 h.1 3 c.loop-p.p c.requires.le_t h.4 (omega arith) (rows) h.5
+            (pairs-skip h.0 h.1 3 c.loop-p.p c.requires.le_t h.4 (omega arith) rows h.5
             (mask-set _ _ _ h.1 w.if-p-d-eq0.false))
       ]),
     )

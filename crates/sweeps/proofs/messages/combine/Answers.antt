@@ -15,18 +15,43 @@ use Rattle.sweeps.proofs.messages.combine.Goals as goal
 
 pub add_cut-requires-clause-a_bound : goal.add_cut-requires-clause-a_bound
 add_cut-requires-clause-a_bound c =
-    let first-is : to_z w16 (of_z w16 c.pick.result) ≡ cond c.args.upper c.args.own c.args.x = told c.pick.type_inv (simp (to_z-of_z c.ranges.own, to_z-of_z c.ranges.x) at c.pick.ensures) in
-    let second_is : to_z w16 (of_z w16 c.pick-2.result) ≡ cond c.args.upper c.args.sum c.args.y = told c.pick-2.type_inv (simp (to_z-of_z c.ranges.sum, to_z-of_z c.ranges.y) at c.pick-2.ensures) in
-    let part-is : to_z w16 (of_z w16 c.min_sum-part.result) ≡ f c.args.rule (cond c.args.upper c.args.own c.args.x) (cond c.args.upper c.args.sum c.args.y) = told c.min_sum-part.type_inv (simp (first-is, second_is) at c.min_sum-part.ensures) in
-    let third-is : to_z w16 (of_z w16 c.pick-3.result) ≡ cond c.args.upper (pos 0) c.args.own = told c.pick-3.type_inv (simp (to_z-of_z c.ranges.own) at c.pick-3.ensures) in
-    let h = c.requires in ((rw (part-is) (le_trans (f-size _ (cond c.args.upper c.args.own c.args.x) _ h.rule_in_range.scale-le) (picked-size c.args.upper c.args.own c.args.x h.own_bound.0 h.own_bound.2)), rw (third-is) (picked-size c.args.upper (pos 0) c.args.own (omega arith) h.own_bound.0)))
+    let a = c.args in
+    let h = c.requires in
+    let first-is : to_z w16 (of_z w16 c.pick.result) ≡ cond a.upper a.own a.x =
+    told c.pick.type_inv (simp (to_z-of_z c.ranges.own, to_z-of_z c.ranges.x) at c.pick.ensures)
+    in
+    let second_is : to_z w16 (of_z w16 c.pick-2.result) ≡ cond a.upper a.sum a.y =
+    told c.pick-2.type_inv (simp (to_z-of_z c.ranges.sum, to_z-of_z c.ranges.y) at c.pick-2.ensures)
+    in
+    let part-is : to_z w16 (of_z w16 c.min_sum-part.result)
+    ≡ f a.rule (cond a.upper a.own a.x) (cond a.upper a.sum a.y) =
+    told c.min_sum-part.type_inv (simp (first-is, second_is) at c.min_sum-part.ensures)
+    in
+    let third-is : to_z w16 (of_z w16 c.pick-3.result) ≡ cond a.upper (pos 0) a.own =
+    told c.pick-3.type_inv (simp (to_z-of_z c.ranges.own) at c.pick-3.ensures)
+    in (
+      rw part-is
+          (le_trans (f-size _ (cond a.upper a.own a.x) _ h.rule_in_range.scale-le)
+          (picked-size a.upper a.own a.x h.own_bound.0 h.own_bound.2)),
+      rw third-is (picked-size a.upper (pos 0) a.own (omega arith) h.own_bound.0),
+    )
 
 pub returns : goal.returns
 returns c =
-    let first-is : to_z w16 (of_z w16 c.pick.result) ≡ cond c.args.upper c.args.own c.args.x = told c.pick.type_inv (simp (to_z-of_z c.ranges.own, to_z-of_z c.ranges.x) at c.pick.ensures) in
-    let second_is : to_z w16 (of_z w16 c.pick-2.result) ≡ cond c.args.upper c.args.sum c.args.y = told c.pick-2.type_inv (simp (to_z-of_z c.ranges.sum, to_z-of_z c.ranges.y) at c.pick-2.ensures) in
-    let part-is : to_z w16 (of_z w16 c.min_sum-part.result) ≡ f c.args.rule (cond c.args.upper c.args.own c.args.x) (cond c.args.upper c.args.sum c.args.y) = told c.min_sum-part.type_inv (simp (first-is, second_is) at c.min_sum-part.ensures) in
-    let third-is : to_z w16 (of_z w16 c.pick-3.result) ≡ cond c.args.upper (pos 0) c.args.own = told c.pick-3.type_inv (simp (to_z-of_z c.ranges.own) at c.pick-3.ensures) in
+    let a = c.args in
+    let first-is : to_z w16 (of_z w16 c.pick.result) ≡ cond a.upper a.own a.x =
+    told c.pick.type_inv (simp (to_z-of_z c.ranges.own, to_z-of_z c.ranges.x) at c.pick.ensures)
+    in
+    let second_is : to_z w16 (of_z w16 c.pick-2.result) ≡ cond a.upper a.sum a.y =
+    told c.pick-2.type_inv (simp (to_z-of_z c.ranges.sum, to_z-of_z c.ranges.y) at c.pick-2.ensures)
+    in
+    let part-is : to_z w16 (of_z w16 c.min_sum-part.result)
+    ≡ f a.rule (cond a.upper a.own a.x) (cond a.upper a.sum a.y) =
+    told c.min_sum-part.type_inv (simp (first-is, second_is) at c.min_sum-part.ensures)
+    in
+    let third-is : to_z w16 (of_z w16 c.pick-3.result) ≡ cond a.upper (pos 0) a.own =
+    told c.pick-3.type_inv (simp (to_z-of_z c.ranges.own) at c.pick-3.ensures)
+    in
     told c.add_cut.type_inv c.add_cut.ensures
     ∙ simp (part-is, third-is)
-    (combined _ c.args.upper c.args.own _ _ _ c.requires.rule_in_range.scale-le c.requires.own_bound.0)
+    (combined _ a.upper a.own _ _ _ c.requires.rule_in_range.scale-le c.requires.own_bound.0)

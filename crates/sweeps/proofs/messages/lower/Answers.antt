@@ -11,5 +11,10 @@ use Rattle.sweeps.proofs.messages.lower.Goals as goal
 
 pub add_cut-requires-clause-a_bound : goal.add_cut-requires-clause-a_bound
 add_cut-requires-clause-a_bound c =
-    let part-is : let a = c.args in to_z w16 (of_z w16 c.min_sum.result) ≡ f a.rule a.x a.y = told c.min_sum.type_inv c.min_sum.ensures ∙ simp (to_z-of_z c.ranges.x, to_z-of_z c.ranges.y) in
-    (rw (part-is, to_z-of_z c.ranges.own) (le_trans (f-size c.args.rule c.args.x c.args.y c.requires.rule_in_range.scale-le) c.requires.own_bound.1, c.requires.own_bound.0))
+    let a = c.args in
+    let h = c.requires in
+    let part-is : to_z w16 (of_z w16 c.min_sum.result) ≡ f a.rule a.x a.y =
+    told c.min_sum.type_inv c.min_sum.ensures ∙ simp (to_z-of_z c.ranges.x, to_z-of_z c.ranges.y)
+    in
+    rw (part-is, to_z-of_z c.ranges.own)
+    (le_trans (f-size a.rule a.x a.y h.rule_in_range.scale-le) h.own_bound.1, h.own_bound.0)

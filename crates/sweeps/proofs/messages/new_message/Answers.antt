@@ -1,6 +1,5 @@
 -- `messages::new_message` meets its contract: the sum fits, and its cut would change nothing.
 use Prim.Native.Nat.{◌+◌}
-use mathlib.Core.List.{List}
 use mathlib.Core.Path.{◌≡◌, ◌∙◌}
 use native.Mathlib.Omega.{arith}
 use lib.IntN.{ℤ, ◌+ℤ◌}
@@ -16,14 +15,19 @@ use Rattle.sweeps.proofs.messages.new_message.Goals as goal
 pub returns : goal.returns
 unfolding new_at
 returns c =
-    let w : List ℤ = c.args.work.now in
-    let own : ℤ = message_at w (c.args.x + c.args.p) in
-    let x-after : ℤ = message_at w (c.args.x + (c.args.p + c.args.d)) in
-    let y-after : ℤ = message_at w (c.args.y + (c.args.p + c.args.d)) in
-    let fits : SFits w16 (x-after +ℤ y-after) = let r = c.requires.readable in sum_fits (x-after) (y-after) (omega (arith, r.x-after, r.y-after, c.requires.rule_in_range.ceiling-le)) in
-    let x-is : to_z w16 (of_z w16 c.get.result) ≡ x-after = told c.get.type_inv c.get.ensures in
-    let y-is : to_z w16 (of_z w16 c.get-2.result) ≡ y-after = told c.get-2.type_inv c.get-2.ensures in
-    let sum_is : to_z w16 (of_z w16 (to_z w16 (of_z w16 c.get.result) +ℤ to_z w16 (of_z w16 c.get-2.result))) ≡ x-after +ℤ y-after = rw (x-is, y-is) (to_z-of_z fits) in
+    let a = c.args in
+    let w = a.work.now in
+    let own : ℤ = message_at w (a.x + a.p) in
+    let x-after : ℤ = message_at w (a.x + (a.p + a.d)) in
+    let y-after : ℤ = message_at w (a.y + (a.p + a.d)) in
+    let r = c.requires.readable in
+    let fits : SFits w16 (x-after +ℤ y-after) =
+    sum_fits x-after y-after (omega (arith, r.x-after, r.y-after, c.requires.rule_in_range.ceiling-le))
+    in
+    let sum_is : to_z w16 (of_z w16 (to_z w16 (of_z w16 c.get.result) +ℤ to_z w16 (of_z w16 c.get-2.result)))
+    ≡ x-after +ℤ y-after =
+    rw (told c.get.type_inv c.get.ensures, told c.get-2.type_inv c.get-2.ensures) (to_z-of_z fits)
+    in
     told c.combine.type_inv c.combine.ensures
     ∙ simp (
       c.requires.upper_value,
@@ -31,5 +35,5 @@ returns c =
       sum_is,
       told c.get-4.type_inv c.get-4.ensures,
       told c.get-5.type_inv c.get-5.ensures,
-      ← f-sum c.args.rule (own) (x-after) (y-after) c.requires.rule_in_range.some c.requires.readable.own,
+      ← f-sum a.rule own x-after y-after c.requires.rule_in_range.some r.own,
     )

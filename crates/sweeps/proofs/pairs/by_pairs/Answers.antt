@@ -23,7 +23,9 @@ join_pair-requires-clause-readable_run c =
 pub loop-p-preserved : goal.loop-p-preserved
 loop-p-preserved c =
     let rows : Rows c.args.m c.args.t c.args.k c.args.x c.args.y = c.requires.rows in
-    let ends : c.loop-p.p + 1 ≤ 2 ^ c.args.m = let h = c.loop-p.invariant in run_end h.0 h.1 0 c.loop-p.p (zero-le) h.4 (omega arith) rows h.5 in
+    let ends : c.loop-p.p + 1 ≤ 2 ^ c.args.m =
+    let h = c.loop-p.invariant in run_end h.0 h.1 0 c.loop-p.p (zero-le) h.4 (omega arith) rows h.5
+    in
     let h = c.loop-p.invariant in (
       h.0,
       h.1,
@@ -31,10 +33,10 @@ loop-p-preserved c =
       omega (arith, ends),
       multiple-next h.4,
       (elim c.if-p-d-eq0.branch [
-        | then-p-d-eq0 w ↦ pairs_next h.0 h.1 0 c.loop-p.p zero-le h.4 (omega arith) (rows) h.5
+        | then-p-d-eq0 w ↦ pairs_next h.0 h.1 0 c.loop-p.p zero-le h.4 (omega arith) rows h.5
             (mask-clear _ _ _ h.1 w.if-p-d-eq0.true) (w.work-is ∙ w.join_pair.ensures)
         | else-p-d-eq0 w ↦ rw w.work-is
-            (pairs-skip h.0 h.1 0 c.loop-p.p zero-le h.4 (omega arith) (rows) h.5
+            (pairs-skip h.0 h.1 0 c.loop-p.p zero-le h.4 (omega arith) rows h.5
             (mask-set _ _ _ h.1 w.if-p-d-eq0.false))
       ]),
     )

@@ -16,12 +16,11 @@ use Rattle.sweeps.proofs.pairs.join_pair.Goals as goal
 pub returns : goal.returns
 unfolding pair_runs
 returns c =
-    let s = c in
-    let a = s.args in
+    let a = c.args in
     let w = a.work.now in
-    let first = run-one a.to (upper_at a.rule a.d a.x a.y w) w (omega (arith, s.requires.d_in_bounds))
+    let first = run-one a.to (upper_at a.rule a.d a.x a.y w) w (omega (arith, c.requires.d_in_bounds))
     (told c.upper_message-upper.type_inv c.upper_message-upper.ensures) in
     ap (λ (l : List ℤ). set l (a.to + a.d) (to_z w16 (of_z w16 c.lower_message-lower.result))) first
     ∙ run-one (a.to + a.d) (lower_at a.rule a.d a.x a.y w) _
-    (rw length-overwrite_from (omega (arith, s.requires.d_in_bounds)))
+    (rw length-overwrite_from (omega (arith, c.requires.d_in_bounds)))
     (told c.lower_message-lower.type_inv c.lower_message-lower.ensures)
