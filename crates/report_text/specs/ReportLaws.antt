@@ -1,5 +1,5 @@
 -- Laws of the output: that its room suffices, and what the decoder leaves for an accepted block.
-use Rattle.std.specs.Prelude.{ℕ, ◌+◌, ◌-◌, ◌*◌, ◌^◌, ◌≤◌, ◌<◌, ◌≡◌, Bool, true, false, ℤ, pos, length, get_or}
+use Rattle.std.specs.Prelude.{ℕ, ◌*◌, ◌^◌, ◌≤◌, ◌<◌, ◌≡◌, Bool, true, false, ℤ, pos, length, get_or}
 use Rattle.std.proofs.Common.{sym, ◌∙◌, subst, true≢false, arith, lit≤, length-append, pow_mono}
 use Rattle.std.proofs.Math.Path.{ap}
 use mathlib.Core.List.{List, [], ◌∷◌, ◌++◌}
