@@ -46,6 +46,9 @@ mark-positive zero some = absurd (omega arith)
 mark-positive (suc n) some = refl
 
 module _ (s : Settings) (mask : List ℕ) (w : List ℤ) (i : ℕ) (frozen : is_information (get_or mask i 0) ≡ false) where
+  certain : soft_at s mask w i ≡ flipped (frozen_bit (get_or mask i 0)) (pos s.ceiling)
+  certain = soft-frozen (rule_of s) (get_or mask i 0) (L s.m w 0 i) (R s.m w 0 i) frozen
+
   pub frozen-size-at : nat_abs (soft_at s mask w i) ≡ s.ceiling
   frozen-size-at =
       ap nat_abs (kind-frozen _ _ (get_or mask i 0) frozen)

@@ -102,6 +102,9 @@ module _ (s : Settings) (mask : List ℕ) (llr : List ℤ) (lent : Slices) where
 -- ---- an accepted call: each place of its outputs
 
 module _ (s : Settings) (mask : List ℕ) (llr : List ℤ) (lent : Slices) (ok : call_number s mask llr lent ≡ 0) where
+  written : decode_slices s mask llr lent ≡ outputs_of s mask (final s mask llr lent.work) lent
+  written = rw ok
+
   fits : OutputsFit (2 ^ s.m) lent
   fits = outputs-fit lent (accepted s mask llr (lengths_of lent) ok).slices
 
