@@ -2,8 +2,7 @@
  * Vedrogne: polar coder, channel fronts, belief-propagation decoder, a tally for each radio, and the texts of blocks
  * and of their reports.
  *
- * x86-64 Linux only: the archive is code for that system and processors of the level x86-64-v2 (with SSE4.2). It needs
- * the C library alone.
+ * x86-64 Linux only: the archive is code for that processor and system. It needs the C library alone.
  *   from the repository    make                            (proves the library, builds target/staticlib/libvedrogne.a)
  *                          cc -Iinclude yours.c target/staticlib/libvedrogne.a -o yours
  *   after `make install`   cc yours.c $(pkg-config --cflags --libs vedrogne) -o yours
