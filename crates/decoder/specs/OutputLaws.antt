@@ -10,13 +10,12 @@ use Rattle.polar.specs.MaskLaws.{kind-information, kind-frozen, kind-either, kin
 use Rattle.message.specs.declared.MinSum.{MinSum}
 use Rattle.message.specs.Message.{add}
 use Rattle.message.specs.MessageLaws.{add-size, add-flipped}
-use Rattle.sweeps.specs.Workspace.{L, R}
 use Rattle.criteria.specs.Marks.{mark_of}
 use Rattle.settings.specs.declared.Settings.{Settings}
 use Rattle.settings.specs.declared.Lengths.{Lengths}
 use Rattle.settings.specs.Slices.{Slices, lengths_of}
 use Rattle.settings.specs.SlicesLaws.{OutputsFit, slices-same}
-use Rattle.decoder.specs.Decoder.{rule_of, soft_of, soft_at, mark_at, coded_soft_at, coded_mark_at, outputs_of}
+use Rattle.decoder.specs.Decoder.{soft_of, soft_at, mark_at, coded_soft_at, coded_mark_at, outputs_of}
 
 -- ---- a soft output
 
@@ -47,7 +46,7 @@ mark-positive (suc n) some = refl
 
 module _ (s : Settings) (mask : List ℕ) (w : List ℤ) (i : ℕ) (frozen : is_information (get_or mask i 0) ≡ false) where
   certain : soft_at s mask w i ≡ flipped (frozen_bit (get_or mask i 0)) (pos s.ceiling)
-  certain = soft-frozen (rule_of s) (get_or mask i 0) (L s.m w 0 i) (R s.m w 0 i) frozen
+  certain = kind-frozen _ _ (get_or mask i 0) frozen
 
   pub frozen-size-at : nat_abs (soft_at s mask w i) ≡ s.ceiling
   frozen-size-at =

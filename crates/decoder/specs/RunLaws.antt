@@ -112,7 +112,8 @@ module _ {s : Settings} {mask : List ℕ} {w : List ℤ} {t : ℕ} {memory : Mem
         work-is = step-work;
         memory-is = memory-is;
         none =
-            λ j p q. ⊎_elim (λ e. rw e (sym holds-is ∙ fails)) (λ l. h.none j p (le_of_suc-le-suc l)) (eq-or-lt_of_le q);
+            λ j p q. ⊎_elim (λ e. rw e (sym holds-is ∙ fails)) (λ l. h.none j p (le_of_suc-le-suc l))
+            (eq-or-lt_of_le q);
       }
 
   -- it holds: the run has ended

@@ -84,14 +84,18 @@ module _ (radio : ℕ) (tallies : List Tally) (r : Result) where
   own-number h = rw (lt-ltb radio radio_count h)
 
   -- its own tally is what a call of the one tally leaves
-  own-counted : radio_call_number radio tallies ≡ tally_number own → radio < radio_count
+  own-counted-by : radio_call_number radio tallies ≡ tally_number own → radio < radio_count
       → length tallies ≡ radio_count
       → tally_of radio (tallies_counted radio tallies r) ≡ tally_by (tally_number own) own r
-  own-counted is h all = ap (λ (number : ℕ). tally_of radio (after number)) is ∙ by_number (tally_number own)
+  own-counted-by is h all = ap (λ (number : ℕ). tally_of radio (after number)) is ∙ by_number (tally_number own)
     where
       by_number : (number : ℕ) → tally_of radio (after number) ≡ tally_by number own r
       by_number zero = get_or-set_same tallies radio (counted own r) none (rw all h)
       by_number (suc number) = refl
+
+  own-counted : radio < radio_count → length tallies ≡ radio_count
+      → tally_of radio (tallies_counted radio tallies r) ≡ tally_by (tally_number own) own r
+  own-counted h all = own-counted-by (rw (lt-ltb radio radio_count h)) h all
 
 -- "The other 63 come back unchanged", of every call, refused ones too
 pub others-unchanged : {radios : Radios} {radio : ℕ} {s : Settings} {mask : List ℕ} {llr : List ℤ}
@@ -131,7 +135,7 @@ module _ (tests : TestedInOrder) (radio : ℕ) (h : radio < radio_count) where
         ≡ tally_by (tally_number (tally_of radio tallies)) (tally_of radio tallies) (decoded c.call)
     own-step same =
         rw (← same)
-        (own-counted c.radio tallies (decoded c.call) (own-tested tallies c.radio (rw same h)) (rw same h) all)
+        (own-counted-by c.radio tallies (decoded c.call) (own-tested tallies c.radio (rw same h)) (rw same h) all)
 
     own-answer : c.radio ≡ radio
         → answer_for tallies c ≡ answer_by (tally_number (tally_of radio tallies)) (decoded c.call)

@@ -188,25 +188,25 @@ module _ (tests : TestedInOrder) {known : List CallFor → List Call} (k : Known
       split false h = omega (arith, ap length (k.left-out c calls h))
 
   -- blocks are never taken back, and each call brings one at most
-  blocks-between : (calls : List CallFor) (tallies : List Tally) → length tallies ≡ radio_count
+  blocks-within : (calls : List CallFor) (tallies : List Tally) → length tallies ≡ radio_count
       → ((sum_over tallies).blocks ≤ (sum_over (tallies_after tallies calls)).blocks) ×
       ((sum_over (tallies_after tallies calls)).blocks ≤ (sum_over tallies).blocks + length (known calls))
-  blocks-between [] tallies all = (omega arith, omega arith)
-  blocks-between (c ∷ calls) tallies all =
-      let later = blocks-between calls (tallies_by tallies c) (next-length tests tallies c all) in
+  blocks-within [] tallies all = (omega arith, omega arith)
+  blocks-within (c ∷ calls) tallies all =
+      let later = blocks-within calls (tallies_by tallies c) (next-length tests tallies c all) in
       let now = next-blocks tests tallies c all in
       (omega (arith, later.0, now.0), omega (arith, later.1, now.1, known-length c calls))
 
   -- from consistent tallies
-  sum-from : (calls : List CallFor) (tallies : List Tally) → length tallies ≡ radio_count → AllConsistent tallies
+  sum-of-known : (calls : List CallFor) (tallies : List Tally) → length tallies ≡ radio_count → AllConsistent tallies
       → (sum_over (tallies_after tallies calls)).blocks ≤ most_blocks
       → sum_over (tallies_after tallies calls) ≡ tally_after (sum_over tallies) (known calls)
-  sum-from [] tallies all each few = sym (ap (tally_after (sum_over tallies)) k.none-known)
-  sum-from (c ∷ calls) tallies all each few =
+  sum-of-known [] tallies all each few = sym (ap (tally_after (sum_over tallies)) k.none-known)
+  sum-of-known (c ∷ calls) tallies all each few =
       let next-all = next-length tests tallies c all in
-      let later = sum-from calls (tallies_by tallies c) next-all (next-consistent tests tallies c each) few in
+      let later = sum-of-known calls (tallies_by tallies c) next-all (next-consistent tests tallies c each) few in
       split (ltb c.radio radio_count) refl later
-      (omega (arith, (blocks-between calls (tallies_by tallies c) next-all).0))
+      (omega (arith, (blocks-within calls (tallies_by tallies c) next-all).0))
     where
       split : (test : Bool) → ltb c.radio radio_count ≡ test
           → sum_over (tallies_after (tallies_by tallies c) calls)
@@ -223,13 +223,14 @@ module _ (tests : TestedInOrder) {known : List CallFor → List Call} (k : Known
           ∙ sym (ap (tally_after (sum_over tallies)) (k.left-out c calls h))
 
   -- none of the calls is refused with 15
-  answered-from : (calls : List CallFor) (tallies : List Tally) → length tallies ≡ radio_count → AllConsistent tallies
+  answered-of-known : (calls : List CallFor) (tallies : List Tally) → length tallies ≡ radio_count
+      → AllConsistent tallies
       → (sum_over tallies).blocks + length (known calls) ≤ most_blocks
       → radio_answers tallies calls ≡ map answer_without15 calls
-  answered-from [] tallies all each few = refl
-  answered-from (c ∷ calls) tallies all each few =
+  answered-of-known [] tallies all each few = refl
+  answered-of-known (c ∷ calls) tallies all each few =
       ap₂ (λ (r : Result) (rs : List Result). r ∷ rs) (by-own (ltb c.radio radio_count) refl)
-      (answered-from calls (tallies_by tallies c) (next-length tests tallies c all)
+      (answered-of-known calls (tallies_by tallies c) (next-length tests tallies c all)
       (next-consistent tests tallies c each)
       (omega (arith, (next-blocks tests tallies c all).1, known-length c calls)))
     where
@@ -242,47 +243,96 @@ module _ (tests : TestedInOrder) {known : List CallFor → List Call} (k : Known
       by-own false h =
           ap (λ (number : ℕ). answer_by number (decoded c.call)) (tests c.radio tallies) ∙ rw h
 
+-- the same of the calls that 16 doesn't refuse
+module _ (c : CallFor) (calls : List CallFor) where
+  known-call-kept : ltb c.radio radio_count ≡ true → known_calls (c ∷ calls) ≡ c.call ∷ known_calls calls
+  known-call-kept h = rw h
+
+  unknown-call-left-out : ltb c.radio radio_count ≡ false → known_calls (c ∷ calls) ≡ known_calls calls
+  unknown-call-left-out h = rw h
+
+  known-calls-length : length (known_calls (c ∷ calls))
+      ≡ cond (ltb c.radio radio_count) 1 0 + length (known_calls calls)
+  known-calls-length = split (ltb c.radio radio_count)
+    where
+      split : (test : Bool)
+          → length (cond test (c.call ∷ known_calls calls) (known_calls calls))
+          ≡ cond test 1 0 + length (known_calls calls)
+      split true = omega arith
+      split false = omega arith
+
+blocks-between : (calls : List CallFor) (tallies : List Tally) → length tallies ≡ radio_count
+    → ((sum_over tallies).blocks ≤ (sum_over (tallies_after tallies calls)).blocks) ×
+    ((sum_over (tallies_after tallies calls)).blocks ≤ (sum_over tallies).blocks + length (known_calls calls))
+blocks-between calls tallies all =
+    let known : Known known_calls =
+    record { none-known = refl; kept = λ c calls h. rw h; left-out = λ c calls h. rw h } in
+    let tests : TestedInOrder = λ radio tallies. refl in
+    blocks-within tests known calls tallies all
+
+sum-from : (calls : List CallFor) (tallies : List Tally) → length tallies ≡ radio_count → AllConsistent tallies
+    → (sum_over (tallies_after tallies calls)).blocks ≤ most_blocks
+    → sum_over (tallies_after tallies calls) ≡ tally_after (sum_over tallies) (known_calls calls)
+sum-from calls tallies all each few =
+    let known : Known known_calls =
+    record { none-known = refl; kept = λ c calls h. rw h; left-out = λ c calls h. rw h } in
+    let tests : TestedInOrder = λ radio tallies. refl in
+    sum-of-known tests known calls tallies all each few
+
 -- "From zeros and up to 1,000,000 blocks in all, the sum over radios is what the single tally would have counted, calls
 -- refused with 16 left out"
 pub radios-sum : (calls : List CallFor) → (sum_over (tallies_after no_blocks calls)).blocks ≤ most_blocks
     → sum_over (tallies_after no_blocks calls) ≡ tally_after none (known_calls calls)
 radios-sum calls few =
-    let known : Known known_calls = record { none-known = refl; kept = λ c calls h. rw h; left-out = λ c calls h. rw h } in
+    let known : Known known_calls =
+    record { none-known = refl; kept = λ c calls h. rw h; left-out = λ c calls h. rw h } in
     let tests : TestedInOrder = λ radio tallies. refl in
-    sum-from tests known calls no_blocks refl zeros-consistent few
+    sum-of-known tests known calls no_blocks refl zeros-consistent few
     ∙ ap (λ (t : Tally). tally_after t (known_calls calls)) (zeros-sum radio_count)
 
 -- so it is after up to 1,000,000 calls that 16 doesn't refuse
 pub radios-sum-of-calls : (calls : List CallFor) → length (known_calls calls) ≤ most_blocks
     → sum_over (tallies_after no_blocks calls) ≡ tally_after none (known_calls calls)
 radios-sum-of-calls calls few =
-    let known : Known known_calls = record { none-known = refl; kept = λ c calls h. rw h; left-out = λ c calls h. rw h } in
+    let known : Known known_calls =
+    record { none-known = refl; kept = λ c calls h. rw h; left-out = λ c calls h. rw h } in
     let tests : TestedInOrder = λ radio tallies. refl in
-    let blocks = (blocks-between tests known calls no_blocks refl).1 in
-    sum-from tests known calls no_blocks refl zeros-consistent
+    let blocks = (blocks-within tests known calls no_blocks refl).1 in
+    sum-of-known tests known calls no_blocks refl zeros-consistent
     (omega (arith, blocks, ap (λ (t : Tally). t.blocks) (zeros-sum radio_count)))
     ∙ ap (λ (t : Tally). tally_after t (known_calls calls)) (zeros-sum radio_count)
 
 -- ---- 15
+
+answered-from : (calls : List CallFor) (tallies : List Tally) → length tallies ≡ radio_count → AllConsistent tallies
+    → (sum_over tallies).blocks + length (known_calls calls) ≤ most_blocks
+    → radio_answers tallies calls ≡ map answer_without15 calls
+answered-from calls tallies all each few =
+    let known : Known known_calls =
+    record { none-known = refl; kept = λ c calls h. rw h; left-out = λ c calls h. rw h } in
+    let tests : TestedInOrder = λ radio tallies. refl in
+    answered-of-known tests known calls tallies all each few
 
 -- of the first 1,000,000 calls from zeros that 16 doesn't refuse none is refused with 15: each answer is 16 or the
 -- decoder's
 pub radios-answered : (calls : List CallFor) → length (known_calls calls) ≤ most_blocks
     → radio_answers no_blocks calls ≡ map answer_without15 calls
 radios-answered calls few =
-    let known : Known known_calls = record { none-known = refl; kept = λ c calls h. rw h; left-out = λ c calls h. rw h } in
+    let known : Known known_calls =
+    record { none-known = refl; kept = λ c calls h. rw h; left-out = λ c calls h. rw h } in
     let tests : TestedInOrder = λ radio tallies. refl in
-    answered-from tests known calls no_blocks refl zeros-consistent
+    answered-of-known tests known calls no_blocks refl zeros-consistent
     (omega (arith, ap (λ (t : Tally). t.blocks) (zeros-sum radio_count)))
 
 -- so all of them count
 pub none-refused-with-15 : (calls : List CallFor) → length (known_calls calls) ≤ most_blocks
     → others (radio_answers no_blocks calls) ≡ radio_answers no_blocks calls
 none-refused-with-15 calls few =
-    let known : Known known_calls = record { none-known = refl; kept = λ c calls h. rw h; left-out = λ c calls h. rw h } in
+    let known : Known known_calls =
+    record { none-known = refl; kept = λ c calls h. rw h; left-out = λ c calls h. rw h } in
     let tests : TestedInOrder = λ radio tallies. refl in
     let answered : radio_answers no_blocks calls ≡ map answer_without15 calls =
-    answered-from tests known calls no_blocks refl zeros-consistent
+    answered-of-known tests known calls no_blocks refl zeros-consistent
     (omega (arith, ap (λ (t : Tally). t.blocks) (zeros-sum radio_count))) in
     rw answered (all-count calls)
   where
