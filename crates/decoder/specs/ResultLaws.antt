@@ -1,6 +1,7 @@
 -- What the decoder can answer (a refusal from 1 to 10, or an ending at an iteration from 1 to the largest limit by
 -- reason 1 or 2), and what an accepted call writes at each place.
-use Rattle.std.specs.Prelude.{ℕ, zero, suc, ◌+◌, ◌-◌, ◌^◌, ◌≤◌, ◌<◌, ◌≡◌, refl, Bool, true, false, cond, List, ℤ, pos, get_or}
+use Rattle.std.specs.Prelude.{ℕ, zero, suc, ◌+◌, ◌-◌, ◌^◌, ◌≤◌, ◌<◌, ◌≡◌, refl, Bool, true, false, cond, List, ℤ, pos}
+use Rattle.std.specs.Prelude.{get_or}
 use Rattle.std.proofs.Common.{ap, ap₂, ◌∙◌, arith, lit≤}
 use Rattle.calls.specs.LentMemoryLaws.{overwrite-at}
 use Rattle.calls.specs.Numbers.{check, first_refusal}

@@ -1,6 +1,7 @@
 -- Laws of the tallies of the radios: a call leaves the others unchanged, and over any run of calls each tally is what
 -- the calls made for its radio alone would have left.
-use Rattle.std.specs.Prelude.{ℕ, zero, suc, ◌<◌, ◌≡◌, refl, Bool, true, false, cond, List, [], ◌∷◌, eqb, ℤ, length, set, replicate}
+use Rattle.std.specs.Prelude.{ℕ, zero, suc, ◌<◌, ◌≡◌, refl, Bool, true, false, cond, List, [], ◌∷◌, eqb, ℤ, length, set}
+use Rattle.std.specs.Prelude.{replicate}
 use Rattle.std.proofs.Common.{sym, ap, ap₂, ◌∙◌, subst, length-set, get_or-set_same, get_or-set_other, eqb-true, lt-ltb}
 use Rattle.std.proofs.lemmas.List.{get_or-replicate, set-get_or}
 use Rattle.std.proofs.lemmas.Bool.{eqb-false}

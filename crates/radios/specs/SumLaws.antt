@@ -1,6 +1,7 @@
 -- Laws of the sum over the radios: up to 1,000,000 blocks in all it is what one tally would have counted over the same
 -- calls, and of so many calls none is refused with 15.
-use Rattle.std.specs.Prelude.{ℕ, zero, suc, ◌+◌, ◌≤◌, ◌<◌, ◌≡◌, refl, Bool, true, false, cond, List, [], ◌∷◌, map, ltb, length, set, replicate}
+use Rattle.std.specs.Prelude.{ℕ, zero, suc, ◌+◌, ◌≤◌, ◌<◌, ◌≡◌, refl, Bool, true, false, cond, List, [], ◌∷◌, map, ltb}
+use Rattle.std.specs.Prelude.{length, set, replicate}
 use Rattle.std.proofs.Common.{sym, ap, ap₂, ◌∙◌, true≢false, arith, ltb-true, ltb-false}
 use Rattle.calls.specs.Numbers.{check, first_refusal}
 use Rattle.calls.specs.LentMemory.{unless_refused}
