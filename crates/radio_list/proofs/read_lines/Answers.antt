@@ -23,7 +23,8 @@ bounds-radios-own c =
     let t = c.args.text.now in
     let l = c.loop-p in
     let passed = c.check_line.ensures.text_value ∙ ap (checked_read t) c.in-Passed.is in
-    let p = line-passes l.least (drop l.p t) (entry c.in-Passed.radio c.in-Passed.tally) (drop c.in-Passed.next t) passed in
+    let e = entry c.in-Passed.radio c.in-Passed.tally in
+    let p = line-passes l.least (drop l.p t) e (drop c.in-Passed.next t) passed in
     omega (arith, p.least-le, p.radio-lt)
 
 pub overflow_add-least : goal.overflow_add-least
@@ -31,7 +32,8 @@ overflow_add-least c =
     let t = c.args.text.now in
     let l = c.loop-p in
     let passed = c.check_line.ensures.text_value ∙ ap (checked_read t) c.in-Passed.is in
-    let p = line-passes l.least (drop l.p t) (entry c.in-Passed.radio c.in-Passed.tally) (drop c.in-Passed.next t) passed in
+    let e = entry c.in-Passed.radio c.in-Passed.tally in
+    let p = line-passes l.least (drop l.p t) e (drop c.in-Passed.next t) passed in
     omega (arith, p.radio-lt)
 
 pub loop-p-smaller : goal.loop-p-smaller
@@ -39,7 +41,8 @@ loop-p-smaller c =
     let t = c.args.text.now in
     let l = c.loop-p in
     let passed = c.check_line.ensures.text_value ∙ ap (checked_read t) c.in-Passed.is in
-    let p = line-passes l.least (drop l.p t) (entry c.in-Passed.radio c.in-Passed.tally) (drop c.in-Passed.next t) passed in
+    let e = entry c.in-Passed.radio c.in-Passed.tally in
+    let p = line-passes l.least (drop l.p t) e (drop c.in-Passed.next t) passed in
     omega (arith, p.least-le, p.radio-lt)
 
 pub loop-p-preserved : goal.loop-p-preserved
