@@ -347,7 +347,8 @@ llr-sizes = llr-sizes-by (record { ceilings = lit< tt; positions = omega arith; 
 
 block-whole : (zs mask llr : List ℤ) → length mask ≡ 2 ^ nat_abs (value_at zs 0)
     → length llr ≡ 2 ^ nat_abs (value_at zs 0)
-    → decode_number (settings_of zs) (map mask_value mask) (map llr_value llr) largest_lengths ≡ whole_number zs mask llr
+    → decode_number (settings_of zs) (map mask_value mask) (map llr_value llr) largest_lengths
+    ≡ whole_number zs mask llr
 block-whole = block-whole-by (record { ceilings = lit< tt; positions = omega arith; sizes = lit< tt })
 
 tested-whole : (zs : List ℤ) (R : Reading (List (List ℤ))) → 2 ^ nat_abs (value_at zs 0) ≤ most_positions
