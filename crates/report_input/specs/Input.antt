@@ -1,5 +1,6 @@
 -- Document 01, "The report's text": what an input means, in the order of the section's sentences. Definitions only.
-use Rattle.std.specs.Prelude.{ℕ, zero, suc, ◌^◌, min, ◌≡◌, cond, List, [], ◌∷◌, leb, eqb, ℤ, pos, negsuc, nat_abs, length, get_or, take}
+use Rattle.std.specs.Prelude.{ℕ, zero, suc, ◌^◌, min, ◌≡◌, cond, List, [], ◌∷◌, leb, eqb, ℤ, pos, negsuc, nat_abs}
+use Rattle.std.specs.Prelude.{length, get_or, take}
 use Rattle.calls.specs.Bounds.{largest_m, most_positions, most_workspace}
 use Rattle.calls.specs.LentMemory.{written_over}
 use Rattle.calls.specs.Numbers.{between, refusal_number}

@@ -1,6 +1,9 @@
 -- Laws of the input: how its lines are read one by one, and what an accepted block is.
-use Rattle.std.specs.Prelude.{ℕ, zero, suc, ◌+◌, ◌-◌, ◌^◌, ◌<◌, ◌≤◌, min, ◌≡◌, refl, Bool, cond, List, [], ◌∷◌, ◌++◌, leb, ltb, eqb, ℤ, pos, length, drop, take, set}
-use Rattle.std.proofs.Common.{sym, ap, ap₂, ◌∙◌, append_assoc, append-nil, add-one, arith, lit<, le-leb, ltb-true, ltb-false, drop_of_length-le, length-take, take-suc-set, get_or-take, drop-cons, take-take, take_all}
+use Rattle.std.specs.Prelude.{ℕ, zero, suc, ◌+◌, ◌-◌, ◌^◌, ◌<◌, ◌≤◌, min, ◌≡◌, refl, Bool, cond, List, [], ◌∷◌, ◌++◌}
+use Rattle.std.specs.Prelude.{leb, ltb, eqb, ℤ, pos, length, drop, take, set}
+use Rattle.std.proofs.Common.{sym, ap, ap₂, ◌∙◌, append_assoc, append-nil, add-one, arith, lit<, le-leb, ltb-true}
+use Rattle.std.proofs.Common.{ltb-false, drop_of_length-le, length-take, take-suc-set, get_or-take, drop-cons}
+use Rattle.std.proofs.Common.{take-take, take_all}
 use Rattle.std.proofs.Math.Bool.{true, false}
 use Rattle.std.proofs.lemmas.Bool.{lt-leb}
 use Rattle.std.proofs.lemmas.List.Edits.{sets}
@@ -58,7 +61,12 @@ pub read-position-found : (p : ℕ) (zs : List ℤ) (s t : List ℕ) → line 3 
     (found (record { frozen = mask_value (value_at zs 1); llr = llr_value (value_at zs 2) }) t) malformed
 unfolding read_position
 read-position-found p zs s t e =
-    rw (e, get_or-take 3 zs 0 (pos 0) (lit< tt), get_or-take 3 zs 1 (pos 0) (lit< tt), get_or-take 3 zs 2 (pos 0) (lit< tt))
+    rw (
+      e,
+      get_or-take 3 zs 0 (pos 0) (lit< tt),
+      get_or-take 3 zs 1 (pos 0) (lit< tt),
+      get_or-take 3 zs 2 (pos 0) (lit< tt),
+    )
 
 pub read-position-malformed : (p : ℕ) (s : List ℕ) → line 3 s ≡ malformed → read_position p s ≡ malformed
 unfolding read_position

@@ -103,7 +103,8 @@ module _ (room : Room) where
   room-or-seven t = either (leb (length t) longest_text)
     where
       either : (ok : Bool)
-          → SameOrSeven (cond ok (sized room (head t)) (refused 14)) (cond ok (sized largest_room (head t)) (refused 14))
+          → SameOrSeven (cond ok (sized room (head t)) (refused 14))
+          (cond ok (sized largest_room (head t)) (refused 14))
       either true = sized-room (head t)
       either false = inl refl
 

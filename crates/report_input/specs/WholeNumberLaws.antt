@@ -1,7 +1,9 @@
 -- Values of a text are compared as whole numbers: reading them into bytes, 16 bits and unsigned numbers changes the
 -- number of no text.
-use Rattle.std.specs.Prelude.{ℕ, zero, suc, ◌+◌, ◌^◌, ◌*◌, ◌≤◌, ◌<◌, min, ◌≡◌, refl, Bool, true, false, cond, ◌&&◌, ◌||◌, List, [], ◌∷◌, map, leb, eqb, ℤ, pos, negsuc, nat_abs, length, get_or}
-use Rattle.std.proofs.Common.{sym, ap, ap₂, ◌∙◌, true≢false, add-zero, mul-le-mul, arith, lit<, pow_mono, leb-true, leb-false, le-leb, ne_eqb}
+use Rattle.std.specs.Prelude.{ℕ, zero, suc, ◌+◌, ◌^◌, ◌*◌, ◌≤◌, ◌<◌, min, ◌≡◌, refl, Bool, true, false, cond, ◌&&◌}
+use Rattle.std.specs.Prelude.{◌||◌, List, [], ◌∷◌, map, leb, eqb, ℤ, pos, negsuc, nat_abs, length, get_or}
+use Rattle.std.proofs.Common.{sym, ap, ap₂, ◌∙◌, true≢false, add-zero, mul-le-mul, arith, lit<, pow_mono, leb-true}
+use Rattle.std.proofs.Common.{leb-false, le-leb, ne_eqb}
 use Rattle.std.proofs.Math.Bool.{and-false}
 use Rattle.std.proofs.Math.Dec.{leb-zero, leb-suc-zero, eqb-suc-zero}
 use Rattle.std.proofs.lemmas.List.{length-map}
@@ -122,16 +124,16 @@ mask-zero (pos (suc n)) =
     least = omega arith
 mask-zero (negsuc n) = refl
 
--- What a value is cut to lies outside every range. The laws that rest on these numbers take them as given, so that each
--- stands by itself; the law of all texts, at the end, shows them.
+-- What a value is cut to lies outside every range. The laws that rest on these numbers take them as given (`..-by`);
+-- the laws at the end show them, each by itself, so that each says by itself where a number breaks it.
 record Outside : Type 0 where
-  ceiling-outside : largest_ceiling < outside_ranges
-  positions-outside : most_positions ≤ outside_ranges
-  llr-outside : largest_ceiling < outside_llr
+  ceilings : largest_ceiling < outside_ranges
+  positions : most_positions ≤ outside_ranges
+  sizes : largest_ceiling < outside_llr
 
 -- 65,539 is no 3
-llr-size : Outside → (C : ℕ) (z : ℤ) → C ≤ largest_ceiling → leb (nat_abs (llr_value z)) C ≡ leb (nat_abs z) C
-llr-size out C z h =
+llr-size-by : Outside → (C : ℕ) (z : ℤ) → C ≤ largest_ceiling → leb (nat_abs (llr_value z)) C ≡ leb (nat_abs z) C
+llr-size-by out C z h =
     ap (λ (n : ℕ). leb n C) (size-flipped (is_negative z) (pos (min (nat_abs z) outside_llr))) ∙ cut (nat_abs z)
   where
     cut : (n : ℕ) → leb (min n outside_llr) C ≡ leb n C
@@ -166,12 +168,13 @@ mask-some (suc n) mask =
     one_more (suc c) zero = le-leb 1 (suc c + 1) (omega arith) ∙ sym (rw (le-leb 1 (suc c) (omega arith)))
     one_more (suc c) (suc k) = rw (add-zero (suc c), le-leb 1 (suc c) (omega arith))
 
-llr-sizes : Outside → (n C : ℕ) (llr : List ℤ) → C ≤ largest_ceiling
+llr-sizes-by : Outside → (n C : ℕ) (llr : List ℤ) → C ≤ largest_ceiling
     → within_ceiling n C (map llr_value llr) ≡ all_of n (λ l. leb (nat_abs l) C) llr
-llr-sizes out zero C llr h = refl
-llr-sizes out (suc n) C llr h =
-    ap₂ ◌&&◌ (llr-sizes out n C llr h)
-    (ap (λ (z : ℤ). leb (nat_abs z) C) (get_or-map llr_value llr n (pos 0)) ∙ llr-size out C (get_or llr n (pos 0)) h)
+llr-sizes-by out zero C llr h = refl
+llr-sizes-by out (suc n) C llr h =
+    ap₂ ◌&&◌ (llr-sizes-by out n C llr h)
+    (ap (λ (z : ℤ). leb (nat_abs z) C) (get_or-map llr_value llr n (pos 0))
+    ∙ llr-size-by out C (get_or llr n (pos 0)) h)
 
 -- ---- the whole chain of tests
 
@@ -195,12 +198,13 @@ next-test false true number x y z e same = absurd (true≢false (sym e))
 next-test false false number x y z e same = refl
 
 -- the number of a block is that of the whole numbers that it was read from
-block-whole : Outside → (zs mask llr : List ℤ) → length mask ≡ 2 ^ nat_abs (value_at zs 0)
+block-whole-by : Outside → (zs mask llr : List ℤ) → length mask ≡ 2 ^ nat_abs (value_at zs 0)
     → length llr ≡ 2 ^ nat_abs (value_at zs 0)
-    → decode_number (settings_of zs) (map mask_value mask) (map llr_value llr) largest_lengths ≡ whole_number zs mask llr
-block-whole out zs mask llr mask-long llr-long =
+    → decode_number (settings_of zs) (map mask_value mask) (map llr_value llr) largest_lengths
+    ≡ whole_number zs mask llr
+block-whole-by out zs mask llr mask-long llr-long =
     next-test _ _ 0 _ _ _ (range-whole 1 largest_m (value_at zs 0) (lit< tt)) (λ one.
-    next-test _ _ 1 _ _ _ (range-whole 1 largest_ceiling (value_at zs 1) out.ceiling-outside) (λ two.
+    next-test _ _ 1 _ _ _ (range-whole 1 largest_ceiling (value_at zs 1) out.ceilings) (λ two.
     next-test _ _ 2 _ _ _ (range-whole 1 largest_scale (value_at zs 2) (lit< tt)) (λ three.
     next-test _ _ 3 _ _ _ (range-whole 1 largest_limit (value_at zs 3) (lit< tt)) (λ four.
     next-test _ _ 4 _ _ _ (up-to-whole largest_criterion (value_at zs 4) (lit< tt)) (λ five.
@@ -211,7 +215,7 @@ block-whole out zs mask llr mask-long llr-long =
     let C : unsigned (value_at zs 1) ≡ nat_abs (value_at zs 1) = in-range 1 largest_ceiling (value_at zs 1) two in
     let C-range : (1 ≤ nat_abs (value_at zs 1)) × (nat_abs (value_at zs 1) ≤ largest_ceiling) =
     between-passed 1 largest_ceiling (nat_abs (value_at zs 1))
-    (rw (← C) (range-whole 1 largest_ceiling (value_at zs 1) out.ceiling-outside ∙ two)) in
+    (rw (← C) (range-whole 1 largest_ceiling (value_at zs 1) out.ceilings ∙ two)) in
     let operand : operand_fits (unsigned (value_at zs 1)) (unsigned (value_at zs 4)) (unsigned (value_at zs 5))
     ≡ operand_in_range (nat_abs (value_at zs 1)) (value_at zs 4) (value_at zs 5) =
     rw C (operand-whole (nat_abs (value_at zs 1)) (value_at zs 4) (value_at zs 5) (omega arith) five) in
@@ -224,7 +228,7 @@ block-whole out zs mask llr mask-long llr-long =
       room_fits (nat_abs (value_at zs 0)) (length mask) (length llr) m-range.1 mask-long llr-long,
       mask-bits (2 ^ nat_abs (value_at zs 0)) mask,
       mask-some (2 ^ nat_abs (value_at zs 0)) mask,
-      llr-sizes out (2 ^ nat_abs (value_at zs 0)) (nat_abs (value_at zs 1)) llr C-range.1,
+      llr-sizes-by out (2 ^ nat_abs (value_at zs 0)) (nat_abs (value_at zs 1)) llr C-range.1,
     )))))))
 
 -- ---- the lines of a text
@@ -283,17 +287,17 @@ lines-length (suc n) s lines u e =
 
 -- ---- the number of a text
 
-tested-whole : Outside → (zs : List ℤ) (R : Reading (List (List ℤ))) → 2 ^ nat_abs (value_at zs 0) ≤ most_positions
+tested-whole-by : Outside → (zs : List ℤ) (R : Reading (List (List ℤ))) → 2 ^ nat_abs (value_at zs 0) ≤ most_positions
     → ((lines : List (List ℤ)) (u : List ℕ) → R ≡ found lines u → length lines ≡ 2 ^ nat_abs (value_at zs 0))
     → number_in (tested largest_room (settings_of zs) (bind R (block_from 0))) ≡ whole_tested zs R
-tested-whole out zs malformed small long = refl
-tested-whole out zs (found lines (x ∷ u)) small long = either (numbered_from 0 lines)
+tested-whole-by out zs malformed small long = refl
+tested-whole-by out zs (found lines (x ∷ u)) small long = either (numbered_from 0 lines)
   where
     either : (ok : Bool)
         → number_in (tested largest_room (settings_of zs) (cond ok (found (block_in lines) (x ∷ u)) malformed)) ≡ 14
     either true = refl
     either false = refl
-tested-whole out zs (found lines []) small long = either (numbered_from 0 lines)
+tested-whole-by out zs (found lines []) small long = either (numbered_from 0 lines)
   where
     either : (ok : Bool)
         → number_in (tested largest_room (settings_of zs) (cond ok (found (block_in lines) []) malformed))
@@ -304,16 +308,17 @@ tested-whole out zs (found lines []) small long = either (numbered_from 0 lines)
         let llr : length (block_in lines).llr ≡ n = simp length-map (long lines [] refl) in
         let whole = held_whole largest_room n (block_in lines) (record { mask-long = mask; llr-long = llr })
         (record { mask-room = small; llr-room = small }) in
-        number-in (block_number (settings_of zs) (held_in largest_room (block_in lines))) (settings_of zs) (block_in lines)
+        number-in (block_number (settings_of zs) (held_in largest_room (block_in lines))) (settings_of zs)
+        (block_in lines)
         ∙ ap (block_number (settings_of zs)) whole
-        ∙ block-whole out zs (column 1 lines) (column 2 lines) (simp length-map (long lines [] refl))
+        ∙ block-whole-by out zs (column 1 lines) (column 2 lines) (simp length-map (long lines [] refl))
         (simp length-map (long lines [] refl))
     either false = refl
 
-sized-whole : Outside → (R : Reading (List ℤ))
+sized-whole-by : Outside → (R : Reading (List ℤ))
     → number_in (sized largest_room (bind R (λ zs s. found (settings_of zs) s))) ≡ whole_sized R
-sized-whole out malformed = refl
-sized-whole out (found zs s) =
+sized-whole-by out malformed = refl
+sized-whole-by out (found zs s) =
     rw (range-whole 1 largest_m (value_at zs 0) (lit< tt)) (either (in_range 1 largest_m (value_at zs 0)) refl)
   where
     either : (ok : Bool) → in_range 1 largest_m (value_at zs 0) ≡ ok
@@ -327,8 +332,33 @@ sized-whole out (found zs s) =
         let small : 2 ^ nat_abs (value_at zs 0) ≤ 2 ^ 10 = pow_mono range.1 in
         ap (λ (k : ℕ). number_in (tested largest_room (settings_of zs) (read_positions (2 ^ k) 0 s))) m
         ∙ rw (lines-block (2 ^ nat_abs (value_at zs 0)) 0 s (omega arith))
-        (tested-whole out zs (line_values (2 ^ nat_abs (value_at zs 0)) s) small (lines-length (2 ^ nat_abs (value_at zs 0)) s))
+        (tested-whole-by out zs (line_values (2 ^ nat_abs (value_at zs 0)) s) small
+        (lines-length (2 ^ nat_abs (value_at zs 0)) s))
     either false e = refl
+
+-- ---- the same laws at the numbers as they are
+
+llr-size : (C : ℕ) (z : ℤ) → C ≤ largest_ceiling → leb (nat_abs (llr_value z)) C ≡ leb (nat_abs z) C
+llr-size = llr-size-by (record { ceilings = lit< tt; positions = omega arith; sizes = lit< tt })
+
+llr-sizes : (n C : ℕ) (llr : List ℤ) → C ≤ largest_ceiling
+    → within_ceiling n C (map llr_value llr) ≡ all_of n (λ l. leb (nat_abs l) C) llr
+llr-sizes = llr-sizes-by (record { ceilings = lit< tt; positions = omega arith; sizes = lit< tt })
+
+block-whole : (zs mask llr : List ℤ) → length mask ≡ 2 ^ nat_abs (value_at zs 0)
+    → length llr ≡ 2 ^ nat_abs (value_at zs 0)
+    → decode_number (settings_of zs) (map mask_value mask) (map llr_value llr) largest_lengths
+    ≡ whole_number zs mask llr
+block-whole = block-whole-by (record { ceilings = lit< tt; positions = omega arith; sizes = lit< tt })
+
+tested-whole : (zs : List ℤ) (R : Reading (List (List ℤ))) → 2 ^ nat_abs (value_at zs 0) ≤ most_positions
+    → ((lines : List (List ℤ)) (u : List ℕ) → R ≡ found lines u → length lines ≡ 2 ^ nat_abs (value_at zs 0))
+    → number_in (tested largest_room (settings_of zs) (bind R (block_from 0))) ≡ whole_tested zs R
+tested-whole = tested-whole-by (record { ceilings = lit< tt; positions = omega arith; sizes = lit< tt })
+
+sized-whole : (R : Reading (List ℤ))
+    → number_in (sized largest_room (bind R (λ zs s. found (settings_of zs) s))) ≡ whole_sized R
+sized-whole = sized-whole-by (record { ceilings = lit< tt; positions = omega arith; sizes = lit< tt })
 
 -- for every text, its number is that of its values as they are written
 pub compared_whole : (t : List ℕ) → number_in (meaning t) ≡ whole_text_number t
@@ -338,7 +368,7 @@ compared_whole t = either (leb (length t) longest_text)
     either : (ok : Bool)
         → number_in (cond ok (sized largest_room (head t)) (refused 14)) ≡ check ok 14 (whole_sized (setting_values t))
     either true =
-        sized-whole
-        (record { ceiling-outside = lit< tt; positions-outside = omega arith; llr-outside = lit< tt })
+        sized-whole-by
+        (record { ceilings = lit< tt; positions = omega arith; sizes = lit< tt })
         (setting_values t)
     either false = refl

@@ -1,7 +1,8 @@
 -- The number of a text by its values as they are written: whole numbers of any size and either sign, each compared as
 -- such. What the theorem `compared_whole` (WholeNumberLaws.antt) cites, in the order of document 01's sentences.
 -- Definitions only.
-use Rattle.std.specs.Prelude.{ℕ, zero, suc, ◌^◌, Bool, true, false, ◌&&◌, ◌||◌, List, [], ◌∷◌, map, leb, eqb, ℤ, pos, negsuc, nat_abs, length, get_or}
+use Rattle.std.specs.Prelude.{ℕ, zero, suc, ◌^◌, Bool, true, false, ◌&&◌, ◌||◌, List, [], ◌∷◌, map, leb, eqb, ℤ, pos}
+use Rattle.std.specs.Prelude.{negsuc, nat_abs, length, get_or}
 use Rattle.calls.specs.Bounds.{largest_m, largest_ceiling, largest_scale}
 use Rattle.calls.specs.Numbers.{check, between}
 use Rattle.settings.specs.Settings.{largest_limit, largest_criterion}

@@ -8,7 +8,8 @@ use Rattle.report_text.specs.Report.{outputs}
 
 abbrev pub slice_values : List ℤ → List ℕ → List ℤ → List ℕ → ℕ → List ℤ
 slice_values soft mark coded_soft coded_mark =
-    outputs (λ i. get_or soft i (pos 0)) (λ i. get_or mark i 0) (λ i. get_or coded_soft i (pos 0)) (λ i. get_or coded_mark i 0)
+    outputs (λ i. get_or soft i (pos 0)) (λ i. get_or mark i 0) (λ i. get_or coded_soft i (pos 0))
+    (λ i. get_or coded_mark i 0)
 
 abbrev pub ending_at : ℕ → Reason → Ending
 ending_at iterations reason = record { iteration = iterations; reason = reason_number reason }

@@ -1,6 +1,8 @@
 -- Reading what was written gives it back: numbers, lines and fixed texts, in front of any text.
-use Rattle.std.specs.Prelude.{ℕ, suc, ◌+◌, ◌-◌, ◌*◌, ◌/◌, ◌%◌, ◌<◌, ◌≤◌, ◌≡◌, refl, true, false, List, [], ◌∷◌, ◌++◌, eqb, ℤ, pos, negsuc, nat_abs, length}
-use Rattle.std.proofs.Common.{sym, ap, ap₂, ◌∙◌, append_assoc, add_assoc, zero-add, one-add, arith, length-append, le-leb, eq-eqb, ne_eqb}
+use Rattle.std.specs.Prelude.{ℕ, suc, ◌+◌, ◌-◌, ◌*◌, ◌/◌, ◌%◌, ◌<◌, ◌≤◌, ◌≡◌, refl, true, false, List, [], ◌∷◌, ◌++◌}
+use Rattle.std.specs.Prelude.{eqb, ℤ, pos, negsuc, nat_abs, length}
+use Rattle.std.proofs.Common.{sym, ap, ap₂, ◌∙◌, append_assoc, add_assoc, zero-add, one-add, arith, length-append}
+use Rattle.std.proofs.Common.{le-leb, eq-eqb, ne_eqb}
 use Rattle.format.specs.Decimal as format
 use Rattle.format.specs.Decimal.{decimal, shown}
 use Rattle.format.specs.DecimalLaws.{

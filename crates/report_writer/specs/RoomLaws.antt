@@ -1,7 +1,8 @@
 -- Laws of the writer's room: how long the text of an accepted block is at most; and what the writer answers and leaves,
 -- by its number.
 use Prim.Native.Nat.{ℕ, zero, suc, ◌+◌, ◌-◌, ◌^◌, ◌≤◌, ◌<◌}
-use Rattle.std.specs.Prelude.{◌≡◌, refl, Bool, true, false, List, [], ◌∷◌, ◌++◌, ℤ, pos, nat_abs, length, get_or, take, drop}
+use Rattle.std.specs.Prelude.{◌≡◌, refl, Bool, true, false, List, [], ◌∷◌, ◌++◌, ℤ, pos, nat_abs, length, get_or, take}
+use Rattle.std.specs.Prelude.{drop}
 use Rattle.std.proofs.Common.{sym, ap, ap₂, ◌∙◌, true≢false, suc-add, leb-true, le-leb, pow_mono}
 use native.Mathlib.Omega.{arith}
 use Rattle.std.proofs.lemmas.Bool.{lt-leb}
@@ -201,12 +202,14 @@ module _ (s : Settings) (b : Block) (old : List ℕ) (e : block_number s b ≡ 0
   -- 7, for a slice that is too short
   pub short-answer : length old < length (tidy_text s b) → rejected 7 ≡ write_answer s b old
   short-answer h =
-      let short : write_number s b (length old) ≡ 7 = ap₂ number_by e (lt-leb (length (tidy_text s b)) (length old) h) in
+      let short : write_number s b (length old) ≡ 7 =
+      ap₂ number_by e (lt-leb (length (tidy_text s b)) (length old) h) in
       rw short
 
   pub short-text : length old < length (tidy_text s b) → old ≡ text_after s b old
   short-text h =
-      let short : write_number s b (length old) ≡ 7 = ap₂ number_by e (lt-leb (length (tidy_text s b)) (length old) h) in
+      let short : write_number s b (length old) ≡ 7 =
+      ap₂ number_by e (lt-leb (length (tidy_text s b)) (length old) h) in
       ap (slice s b old) (sym short)
 
   -- the text, where it has room

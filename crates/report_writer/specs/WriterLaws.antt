@@ -1,9 +1,11 @@
 -- Laws of the tidy text: it writes the first N elements of a block and no other, reading it gives the settings and the
 -- block back, and it is the one text of its settings and block.
 use Prim.Native.Nat.{ℕ, zero, suc, ◌+◌, ◌^◌, ◌<◌, ◌≤◌, min}
-use Rattle.std.specs.Prelude.{◌≡◌, true, List, [], ◌∷◌, ◌++◌, leb, ℤ, pos, negsuc, neg_ℤ, nat_abs, length, get_or, drop, take}
+use Rattle.std.specs.Prelude.{◌≡◌, true, List, [], ◌∷◌, ◌++◌, leb, ℤ, pos, negsuc, neg_ℤ, nat_abs, length, get_or, drop}
+use Rattle.std.specs.Prelude.{take}
 use Rattle.std.proofs.Math.Path.{refl}
-use Rattle.std.proofs.Common.{sym, ap, ap₂, ◌∙◌, append_assoc, arith, get_or-take, take_all, length-take-le, le-leb, eq-eqb}
+use Rattle.std.proofs.Common.{sym, ap, ap₂, ◌∙◌, append_assoc, arith, get_or-take, take_all, length-take-le, le-leb}
+use Rattle.std.proofs.Common.{eq-eqb}
 use Rattle.std.proofs.Math.Dec.{leb-zero, leb-suc-suc}
 use Rattle.std.proofs.Math.Seq.{drop-cons}
 use Rattle.calls.specs.Bounds.{largest_m}

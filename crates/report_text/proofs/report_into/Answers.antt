@@ -16,13 +16,15 @@ pub refused-requires : goal.refused-requires
 refused-requires c = omega (arith, refusal-length c.in-Refused.refusal, c.requires)
 
 pub power_of_two-n-requires : goal.power_of_two-n-requires
-power_of_two-n-requires c = fit_length (accepted-text c.args.text.now cleared-long c.read.ensures c.in-Accepted.is refl).fit
+power_of_two-n-requires c =
+    fit_length (accepted-text c.args.text.now cleared-long c.read.ensures c.in-Accepted.is refl).fit
 
 pub slice_bounds-mask-end : goal.slice_bounds-mask-end
 slice_bounds-mask-end c =
     let n : ℕ = c.power_of_two-n.result in
     let slices : Block = block_of c.read.new.mask c.read.new.llr in
-    let text : AcceptedText (meaning c.args.text.now) c.in-Accepted.settings (first_of n (slices)) = accepted-text c.args.text.now cleared-long c.read.ensures c.in-Accepted.is c.power_of_two-n.ensures in
+    let text : AcceptedText (meaning c.args.text.now) c.in-Accepted.settings (first_of n (slices)) =
+    accepted-text c.args.text.now cleared-long c.read.ensures c.in-Accepted.is c.power_of_two-n.ensures in
     let mask-long : n ≡ length (take n (slices).mask) = c.power_of_two-n.ensures ∙ sym text.fit.long.mask-long in
     omega (arith, length-take (n) (slices).mask, mask-long)
 
@@ -30,7 +32,8 @@ pub slice_bounds-decoded-end : goal.slice_bounds-decoded-end
 slice_bounds-decoded-end c =
     let n : ℕ = c.power_of_two-n.result in
     let slices : Block = block_of c.read.new.mask c.read.new.llr in
-    let text : AcceptedText (meaning c.args.text.now) c.in-Accepted.settings (first_of n (slices)) = accepted-text c.args.text.now cleared-long c.read.ensures c.in-Accepted.is c.power_of_two-n.ensures in
+    let text : AcceptedText (meaning c.args.text.now) c.in-Accepted.settings (first_of n (slices)) =
+    accepted-text c.args.text.now cleared-long c.read.ensures c.in-Accepted.is c.power_of_two-n.ensures in
     let mask-long : n ≡ length (take n (slices).mask) = c.power_of_two-n.ensures ∙ sym text.fit.long.mask-long in
     mask-long
 
@@ -38,7 +41,8 @@ pub slice_bounds-llr-end : goal.slice_bounds-llr-end
 slice_bounds-llr-end c =
     let n : ℕ = c.power_of_two-n.result in
     let slices : Block = block_of c.read.new.mask c.read.new.llr in
-    let text : AcceptedText (meaning c.args.text.now) c.in-Accepted.settings (first_of n (slices)) = accepted-text c.args.text.now cleared-long c.read.ensures c.in-Accepted.is c.power_of_two-n.ensures in
+    let text : AcceptedText (meaning c.args.text.now) c.in-Accepted.settings (first_of n (slices)) =
+    accepted-text c.args.text.now cleared-long c.read.ensures c.in-Accepted.is c.power_of_two-n.ensures in
     let llr-long : n ≡ length (take n (slices).llr) = c.power_of_two-n.ensures ∙ sym text.fit.long.llr-long in
     omega (arith, length-take (n) (slices).llr, llr-long)
 
@@ -46,7 +50,8 @@ pub slice_bounds-decoded-end-in-Accepted : goal.slice_bounds-decoded-end-in-Acce
 slice_bounds-decoded-end-in-Accepted c =
     let n : ℕ = c.power_of_two-n.result in
     let slices : Block = block_of c.read.new.mask c.read.new.llr in
-    let text : AcceptedText (meaning c.args.text.now) c.in-Accepted.settings (first_of n (slices)) = accepted-text c.args.text.now cleared-long c.read.ensures c.in-Accepted.is c.power_of_two-n.ensures in
+    let text : AcceptedText (meaning c.args.text.now) c.in-Accepted.settings (first_of n (slices)) =
+    accepted-text c.args.text.now cleared-long c.read.ensures c.in-Accepted.is c.power_of_two-n.ensures in
     let llr-long : n ≡ length (take n (slices).llr) = c.power_of_two-n.ensures ∙ sym text.fit.long.llr-long in
     llr-long
 
@@ -54,23 +59,33 @@ pub decoded-requires-clause-fit : goal.decoded-requires-clause-fit
 decoded-requires-clause-fit c =
     let n : ℕ = c.power_of_two-n.result in
     let slices : Block = block_of c.read.new.mask c.read.new.llr in
-    let text : AcceptedText (meaning c.args.text.now) c.in-Accepted.settings (first_of n (slices)) = accepted-text c.args.text.now cleared-long c.read.ensures c.in-Accepted.is c.power_of_two-n.ensures in
+    let text : AcceptedText (meaning c.args.text.now) c.in-Accepted.settings (first_of n (slices)) =
+    accepted-text c.args.text.now cleared-long c.read.ensures c.in-Accepted.is c.power_of_two-n.ensures in
     text.fit
 
 pub returns-in-Refused-clause-wrote : goal.returns-in-Refused-clause-wrote
 unfolding report
 returns-in-Refused-clause-wrote c =
-    let a = c.args in let w = c.refused in let means = refused-text a.text.now cleared-long c.read.ensures c.in-Refused.is in (subst (λ (text : List ℕ). Wrote a.out.now 0 text w.new.out w.result) (sym (ap text_of means)) w.ensures)
+    let a = c.args in
+    let w = c.refused in
+    let means = refused-text a.text.now cleared-long c.read.ensures c.in-Refused.is in
+    (subst (λ (text : List ℕ). Wrote a.out.now 0 text w.new.out w.result) (sym (ap text_of means)) w.ensures)
 
 pub returns-in-Refused-clause-upper_bound : goal.returns-in-Refused-clause-upper_bound
 unfolding report
 returns-in-Refused-clause-upper_bound c =
-    let a = c.args in let w = c.refused in let means = refused-text a.text.now cleared-long c.read.ensures c.in-Refused.is in (omega (arith, w.ensures.next-is, refusal-length c.in-Refused.refusal))
+    let a = c.args in
+    let w = c.refused in
+    let means = refused-text a.text.now cleared-long c.read.ensures c.in-Refused.is in
+    (omega (arith, w.ensures.next-is, refusal-length c.in-Refused.refusal))
 
 pub returns-in-Accepted-clause-wrote : goal.returns-in-Accepted-clause-wrote
 unfolding report
 returns-in-Accepted-clause-wrote c =
     let n : ℕ = c.power_of_two-n.result in
     let slices : Block = block_of c.read.new.mask c.read.new.llr in
-    let text : AcceptedText (meaning c.args.text.now) c.in-Accepted.settings (first_of n (slices)) = accepted-text c.args.text.now cleared-long c.read.ensures c.in-Accepted.is c.power_of_two-n.ensures in
-    let w = c.decoded in (subst (λ (text : List ℕ). Wrote c.args.out.now 0 text w.new.out w.result) (sym (ap text_of (text).is)) w.ensures.wrote)
+    let text : AcceptedText (meaning c.args.text.now) c.in-Accepted.settings (first_of n (slices)) =
+    accepted-text c.args.text.now cleared-long c.read.ensures c.in-Accepted.is c.power_of_two-n.ensures in
+    let w = c.decoded in
+    (subst (λ (text : List ℕ). Wrote c.args.out.now 0 text w.new.out w.result)
+    (sym (ap text_of (text).is)) w.ensures.wrote)

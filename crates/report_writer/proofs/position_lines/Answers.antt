@@ -20,21 +20,27 @@ use Rattle.report_writer.proofs.position_lines.Goals as goal
 pub position_line-end-requires : goal.position_line-end-requires
 position_line-end-requires c =
     let i : ℕ = c.loop-i.i in
-    let handed : List ℤ = let a = c.args in pos i ∷ pos (get_or a.mask.now i 0) ∷ to_z w16 (of_z w16 (get_or a.llr.now i (pos 0))) ∷ [] in
+    let handed : List ℤ = let a = c.args in
+    pos i ∷ pos (get_or a.mask.now i 0) ∷ to_z w16 (of_z w16 (get_or a.llr.now i (pos 0))) ∷ [] in
     let all : ℕ → List ℤ = values_at (block_of c.args.mask.now c.args.llr.now) in
-    let are-values : handed ≡ all i = rw (to_z-of_z {w = w16} {z = get_or c.args.llr.now c.loop-i.i (pos 0)} (record { sfits = search rules })) in
+    let are-values : handed ≡ all i =
+    rw (to_z-of_z {w = w16} {z = get_or c.args.llr.now c.loop-i.i (pos 0)} (record { sfits = search rules })) in
     let rest : List ℕ = position_lines all (c.args.n - (i + 1)) (i + 1) in
-    let next : position_lines all (c.args.n - i) i ≡ line handed ++ rest = position-lines-next all c.args.n i (omega arith) ∙ ap (λ (zs : List ℤ). line zs ++ rest) (sym are-values) in
+    let next : position_lines all (c.args.n - i) i ≡ line handed ++ rest =
+    position-lines-next all c.args.n i (omega arith) ∙ ap (λ (zs : List ℤ). line zs ++ rest) (sym are-values) in
     (omega arith, writing-room (line (handed)) (rest) c.loop-i.invariant.1 (next) c.requires.n_in_bounds)
 
 pub loop-i-preserved : goal.loop-i-preserved
 loop-i-preserved c =
     let all : ℕ → List ℤ = values_at (block_of c.args.mask.now c.args.llr.now) in
     let i : ℕ = c.loop-i.i in
-    let handed : List ℤ = let a = c.args in pos i ∷ pos (get_or a.mask.now i 0) ∷ to_z w16 (of_z w16 (get_or a.llr.now i (pos 0))) ∷ [] in
-    let are-values : handed ≡ all i = rw (to_z-of_z {w = w16} {z = get_or c.args.llr.now c.loop-i.i (pos 0)} (record { sfits = search rules })) in
+    let handed : List ℤ = let a = c.args in
+    pos i ∷ pos (get_or a.mask.now i 0) ∷ to_z w16 (of_z w16 (get_or a.llr.now i (pos 0))) ∷ [] in
+    let are-values : handed ≡ all i =
+    rw (to_z-of_z {w = w16} {z = get_or c.args.llr.now c.loop-i.i (pos 0)} (record { sfits = search rules })) in
     let rest : List ℕ = position_lines all (c.args.n - (i + 1)) (i + 1) in
-    let next : position_lines all (c.args.n - i) i ≡ line handed ++ rest = position-lines-next all c.args.n i (omega arith) ∙ ap (λ (zs : List ℤ). line zs ++ rest) (sym are-values) in
+    let next : position_lines all (c.args.n - i) i ≡ line handed ++ rest =
+    position-lines-next all c.args.n i (omega arith) ∙ ap (λ (zs : List ℤ). line zs ++ rest) (sym are-values) in
     (omega arith, writing-next c.loop-i.invariant.1 (next) c.position_line-end.ensures)
 
 pub returns : goal.returns

@@ -35,7 +35,8 @@ slice_bounds-copy-end c =
     let passed : block_number (s) (b) ≡ 0 = number in
     let text : List ℕ = tidy_text (s) (b) in
     let short : length text ≤ longest_tidy_text = tidy-length (s) (b) passed in
-    let composed : take c.compose-length.result c.compose-length.new.out ≡ text = wrote-first c.compose-length.ensures (omega (arith, short, length-replicate {A = ℕ} longest_tidy_text 0)) in
+    let composed : take c.compose-length.result c.compose-length.new.out ≡ text =
+    wrote-first c.compose-length.ensures (omega (arith, short, length-replicate {A = ℕ} longest_tidy_text 0)) in
     let long : c.compose-length.result ≡ length text = c.compose-length.ensures.next-is ∙ zero-add (length text) in
     long ∙ sym (ap length (composed))
 
@@ -47,7 +48,10 @@ returns-else-room-length-clause-text_after c =
     let passed : block_number (s) (b) ≡ 0 = number in
     let text : List ℕ = tidy_text (s) (b) in
     let short : length text ≤ longest_tidy_text = tidy-length (s) (b) passed in
-    let composed : take c.compose-length.result c.compose-length.new.out ≡ text = wrote-first c.compose-length.ensures (omega (arith, short, length-replicate {A = ℕ} longest_tidy_text 0)) in
+    let composed : take c.compose-length.result c.compose-length.new.out ≡ text =
+    wrote-first c.compose-length.ensures (omega (arith, short, length-replicate {A = ℕ} longest_tidy_text 0)) in
     let long : c.compose-length.result ≡ length text = c.compose-length.ensures.next-is ∙ zero-add (length text) in
     let old : List ℕ = c.args.text.now in
-    let fits : length (text) ≤ length (old) = omega (arith, long, c.if-room-length.false) in (c.copy.ensures.new_is ∙ ap (sets (old) 0) (composed) ∙ written-sets (text) (old) fits ∙ written-text (s) (b) (old) (passed) fits)
+    let fits : length (text) ≤ length (old) = omega (arith, long, c.if-room-length.false) in
+    (c.copy.ensures.new_is ∙ ap (sets (old) 0) (composed) ∙ written-sets (text) (old) fits
+    ∙ written-text (s) (b) (old) (passed) fits)
