@@ -125,63 +125,85 @@ TestedInOrder =
     → radio_call_number radio tallies ≡ first_refusal (radio_number radio) (tally_number (tally_of radio tallies))
 
 -- namely over the calls made for it
-module _ (tests : TestedInOrder) (radio : ℕ) (h : radio < radio_count) where
-  own-tested : (tallies : List Tally) (at : ℕ) → at < radio_count
-      → radio_call_number at tallies ≡ tally_number (tally_of at tallies)
-  own-tested tallies at few = tests at tallies ∙ rw (lt-ltb at radio_count few)
+module _ (radio : ℕ) (h : radio < radio_count) where
+  module _ (tests : TestedInOrder) where
+    own-tested : (tallies : List Tally) (at : ℕ) → at < radio_count
+        → radio_call_number at tallies ≡ tally_number (tally_of at tallies)
+    own-tested tallies at few = tests at tallies ∙ rw (lt-ltb at radio_count few)
+
+    module _ (tallies : List Tally) (all : length tallies ≡ radio_count) (c : CallFor) where
+      own-step-if : c.radio ≡ radio
+          → tally_of radio (tallies_by tallies c)
+          ≡ tally_by (tally_number (tally_of radio tallies)) (tally_of radio tallies) (decoded c.call)
+      own-step-if same =
+          rw (← same)
+          (own-counted-by c.radio tallies (decoded c.call) (own-tested tallies c.radio (rw same h)) (rw same h) all)
+
+      own-answer-if : c.radio ≡ radio
+          → answer_for tallies c ≡ answer_by (tally_number (tally_of radio tallies)) (decoded c.call)
+      own-answer-if same =
+          rw (← same)
+          (ap (λ (number : ℕ). answer_by number (decoded c.call)) (own-tested tallies c.radio (rw same h)))
+
+      other_step-if : (c.radio ≡ radio → ⊥) → tally_of radio (tallies_by tallies c) ≡ tally_of radio tallies
+      other_step-if ne = others-kept c.radio tallies (decoded c.call) radio (λ e. ne (sym e))
+
+    own-run-if : (calls : List CallFor) (tallies : List Tally) → length tallies ≡ radio_count
+        → OwnRun radio tallies calls (calls_for radio calls)
+    own-run-if [] tallies all = record { tally-is = refl; answers-are = refl }
+    own-run-if (c ∷ calls) tallies all =
+        split (eqb c.radio radio) refl
+        (own-run-if calls (tallies_by tallies c) (tallies-length c.radio tallies (decoded c.call) ∙ all))
+      where
+        split : (test : Bool) → eqb c.radio radio ≡ test
+            → OwnRun radio (tallies_by tallies c) calls (calls_for radio calls)
+            → OwnRun radio tallies (c ∷ calls) (calls_for radio (c ∷ calls))
+        split true e later =
+            let same = eqb-true c.radio radio e in
+            let step = own-step-if tallies all c same in
+            let its = calls_for radio calls in
+            record {
+              tally-is = rw e (later.tally-is ∙ ap (λ (t : Tally). tally_after t its) step);
+              answers-are =
+                  rw e
+                  (ap₂ (λ (r : Result) (rs : List Result). r ∷ rs) (own-answer-if tallies all c same)
+                  (later.answers-are ∙ ap (λ (t : Tally). answers t its) step));
+            }
+        split false e later =
+            let kept = other_step-if tallies all c (eqb-false c.radio radio e) in
+            let its = calls_for radio calls in
+            record {
+              tally-is = rw e (later.tally-is ∙ ap (λ (t : Tally). tally_after t its) kept);
+              answers-are = rw e (later.answers-are ∙ ap (λ (t : Tally). answers t its) kept);
+            }
+
+  -- and they are tested so
+  in-order : TestedInOrder
+  in-order radio tallies = refl
 
   module _ (tallies : List Tally) (all : length tallies ≡ radio_count) (c : CallFor) where
     own-step : c.radio ≡ radio
         → tally_of radio (tallies_by tallies c)
         ≡ tally_by (tally_number (tally_of radio tallies)) (tally_of radio tallies) (decoded c.call)
-    own-step same =
-        rw (← same)
-        (own-counted-by c.radio tallies (decoded c.call) (own-tested tallies c.radio (rw same h)) (rw same h) all)
+    own-step = own-step-if in-order tallies all c
 
     own-answer : c.radio ≡ radio
         → answer_for tallies c ≡ answer_by (tally_number (tally_of radio tallies)) (decoded c.call)
-    own-answer same =
-        rw (← same)
-        (ap (λ (number : ℕ). answer_by number (decoded c.call)) (own-tested tallies c.radio (rw same h)))
+    own-answer = own-answer-if in-order tallies all c
 
     other_step : (c.radio ≡ radio → ⊥) → tally_of radio (tallies_by tallies c) ≡ tally_of radio tallies
-    other_step ne = others-kept c.radio tallies (decoded c.call) radio (λ e. ne (sym e))
+    other_step = other_step-if in-order tallies all c
 
   own-run : (calls : List CallFor) (tallies : List Tally) → length tallies ≡ radio_count
       → OwnRun radio tallies calls (calls_for radio calls)
-  own-run [] tallies all = record { tally-is = refl; answers-are = refl }
-  own-run (c ∷ calls) tallies all =
-      split (eqb c.radio radio) refl
-      (own-run calls (tallies_by tallies c) (tallies-length c.radio tallies (decoded c.call) ∙ all))
-    where
-      split : (test : Bool) → eqb c.radio radio ≡ test
-          → OwnRun radio (tallies_by tallies c) calls (calls_for radio calls)
-          → OwnRun radio tallies (c ∷ calls) (calls_for radio (c ∷ calls))
-      split true e later =
-          let same = eqb-true c.radio radio e in
-          let step = own-step tallies all c same in
-          let its = calls_for radio calls in
-          record {
-            tally-is = rw e (later.tally-is ∙ ap (λ (t : Tally). tally_after t its) step);
-            answers-are =
-                rw e
-                (ap₂ (λ (r : Result) (rs : List Result). r ∷ rs) (own-answer tallies all c same)
-                (later.answers-are ∙ ap (λ (t : Tally). answers t its) step));
-          }
-      split false e later =
-          let kept = other_step tallies all c (eqb-false c.radio radio e) in
-          let its = calls_for radio calls in
-          record {
-            tally-is = rw e (later.tally-is ∙ ap (λ (t : Tally). tally_after t its) kept);
-            answers-are = rw e (later.answers-are ∙ ap (λ (t : Tally). answers t its) kept);
-          }
+  own-run = own-run-if in-order
 
 -- "After any run of calls from zeros" each radio's five numbers are the counts over the calls made for it: those
 -- refused with 15 are left out, and 16 refuses none of them
 pub radio-counts : (radio : ℕ) → radio < radio_count → (calls : List CallFor)
     → tally_of radio (tallies_after no_blocks calls) ≡ counts_over (others (answers_to radio no_blocks calls))
 radio-counts radio h calls =
-    let own = own-run (λ radio tallies. refl) radio h calls no_blocks refl in
+    let own = own-run-if radio h (λ radio tallies. refl) calls no_blocks refl in
     let zeros = get_or-replicate radio_count radio none none h in
     let its = calls_for radio calls in
     own.tally-is
@@ -196,6 +218,6 @@ pub radio-usable-or-full : (radio : ℕ) → radio < radio_count → (calls : Li
 radio-usable-or-full radio h calls =
     subst UsableOrFull
     (sym
-    ((own-run (λ radio tallies. refl) radio h calls no_blocks refl).tally-is
+    ((own-run-if radio h (λ radio tallies. refl) calls no_blocks refl).tally-is
     ∙ ap (λ (t : Tally). tally_after t (calls_for radio calls)) (get_or-replicate radio_count radio none none h)))
     (run-usable-or-full (calls_for radio calls))

@@ -85,36 +85,12 @@ full t fits e = split (ltb t.blocks most_blocks) refl
 
 -- ---- one call, of consistent tallies
 
-module _ (tests : TestedInOrder) (tallies : List Tally) (c : CallFor) where
+module _ (tallies : List Tally) (c : CallFor) where
   abbrev own : Tally
   own = tally_of c.radio tallies
 
   abbrev answer : Result
   answer = decoded c.call
-
-  tested : tallies_by tallies c
-      ≡ unless_refused (first_refusal (radio_number c.radio) (tally_number own))
-      (set tallies c.radio (counted own answer)) tallies
-  tested =
-      ap (λ (number : ℕ). unless_refused number (set tallies c.radio (counted own answer)) tallies)
-      (tests c.radio tallies)
-
-  unknown-keeps : ltb c.radio radio_count ≡ false → tallies_by tallies c ≡ tallies
-  unknown-keeps h = tested ∙ rw h
-
-  -- the three ways of a call: refused with 16, refused with 15, counted
-  by_call : {P : Type 0}
-      → (ltb c.radio radio_count ≡ false → tallies_by tallies c ≡ tallies → P)
-      → ((number : ℕ) → ltb c.radio radio_count ≡ true → tally_number own ≡ suc number
-      → tallies_by tallies c ≡ tallies → P)
-      → (ltb c.radio radio_count ≡ true → tally_number own ≡ 0
-      → tallies_by tallies c ≡ set tallies c.radio (counted own answer) → P) → P
-  by_call {P} unknown unusable taken = split (ltb c.radio radio_count) (tally_number own) refl refl
-    where
-      split : (test : Bool) (number : ℕ) → ltb c.radio radio_count ≡ test → tally_number own ≡ number → P
-      split false number h e = unknown h (unknown-keeps h)
-      split true zero h e = taken h e (tested ∙ rw (h, e))
-      split true (suc number) h e = unusable number h e (tested ∙ rw (h, e))
 
   sum-counted : length tallies ≡ radio_count → ltb c.radio radio_count ≡ true
       → sum_over (set tallies c.radio (counted own answer)) ≡ counted (sum_over tallies) answer
@@ -124,48 +100,101 @@ module _ (tests : TestedInOrder) (tallies : List Tally) (c : CallFor) where
       ∙ sum-plus tallies c.radio (single answer) (rw all (ltb-true c.radio radio_count h))
       ∙ sym (counted-plus (sum_over tallies) answer d)
 
-  next-consistent : AllConsistent tallies → AllConsistent (tallies_by tallies c)
-  next-consistent each =
-      let d = decoded-answer c.call in
-      let fits : Consistent (counted own answer) =
-      rw (counted-plus own answer d) (plus-consistent (each c.radio) (single-consistent answer d)) in
-      by_call (λ h e. rw e each) (λ number h g e. rw e each)
-      (λ h g e. rw e (set-every Consistent tallies c.radio (counted own answer) each fits))
-
   next-length : length tallies ≡ radio_count → length (tallies_by tallies c) ≡ radio_count
   next-length all = tallies-length c.radio tallies answer ∙ all
 
-  -- the sum has one block more at most, and none where 16 refuses
+  module _ (tests : TestedInOrder) where
+    tested : tallies_by tallies c
+        ≡ unless_refused (first_refusal (radio_number c.radio) (tally_number own))
+        (set tallies c.radio (counted own answer)) tallies
+    tested =
+        ap (λ (number : ℕ). unless_refused number (set tallies c.radio (counted own answer)) tallies)
+        (tests c.radio tallies)
+
+    unknown-keeps-if : ltb c.radio radio_count ≡ false → tallies_by tallies c ≡ tallies
+    unknown-keeps-if h = tested ∙ rw h
+
+    -- the three ways of a call: refused with 16, refused with 15, counted
+    by_call-if : {P : Type 0}
+        → (ltb c.radio radio_count ≡ false → tallies_by tallies c ≡ tallies → P)
+        → ((number : ℕ) → ltb c.radio radio_count ≡ true → tally_number own ≡ suc number
+        → tallies_by tallies c ≡ tallies → P)
+        → (ltb c.radio radio_count ≡ true → tally_number own ≡ 0
+        → tallies_by tallies c ≡ set tallies c.radio (counted own answer) → P) → P
+    by_call-if {P} unknown unusable taken = split (ltb c.radio radio_count) (tally_number own) refl refl
+      where
+        split : (test : Bool) (number : ℕ) → ltb c.radio radio_count ≡ test → tally_number own ≡ number → P
+        split false number h e = unknown h (unknown-keeps-if h)
+        split true zero h e = taken h e (tested ∙ rw (h, e))
+        split true (suc number) h e = unusable number h e (tested ∙ rw (h, e))
+
+    next-consistent-if : AllConsistent tallies → AllConsistent (tallies_by tallies c)
+    next-consistent-if each =
+        let d = decoded-answer c.call in
+        let fits : Consistent (counted own answer) =
+        rw (counted-plus own answer d) (plus-consistent (each c.radio) (single-consistent answer d)) in
+        by_call-if (λ h e. rw e each) (λ number h g e. rw e each)
+        (λ h g e. rw e (set-every Consistent tallies c.radio (counted own answer) each fits))
+
+    -- the sum has one block more at most, and none where 16 refuses
+    next-blocks-if : length tallies ≡ radio_count
+        → ((sum_over tallies).blocks ≤ (sum_over (tallies_by tallies c)).blocks) ×
+        ((sum_over (tallies_by tallies c)).blocks ≤ (sum_over tallies).blocks + cond (ltb c.radio radio_count) 1 0)
+    next-blocks-if all =
+        by_call-if
+        (λ h e. let b = ap (λ (ts : List Tally). (sum_over ts).blocks) e in (omega arith, omega arith))
+        (λ number h g e. let b = ap (λ (ts : List Tally). (sum_over ts).blocks) e in (omega arith, omega arith))
+        (λ h g e.
+        let b = ap (λ (ts : List Tally). (sum_over ts).blocks) e ∙ ap (λ (t : Tally). t.blocks) (sum-counted all h)
+        ∙ blocks-counted (sum_over tallies) c.call in
+        let one = ap (λ (test : Bool). cond {A = ℕ} test 1 0) h in
+        (omega arith, omega arith))
+
+    -- up to 1,000,000 blocks the sum is what a call of one tally leaves
+    next-sum-if : length tallies ≡ radio_count → AllConsistent tallies → ltb c.radio radio_count ≡ true
+        → (sum_over (tallies_by tallies c)).blocks ≤ most_blocks
+        → sum_over (tallies_by tallies c) ≡ tally_by (tally_number (sum_over tallies)) (sum_over tallies) answer
+    next-sum-if all each known few =
+        by_call-if
+        (λ h e. absurd (true≢false (sym known ∙ h)))
+        (λ number h g e.
+        let most = full own (each c.radio) g in
+        let over = refused-15 (sum_over tallies)
+        (λ z. let u = usable (sum_over tallies) z in omega (arith, u.blocks-lt, own-blocks tallies c.radio)) in
+        ap sum_over e ∙ sym (ap (λ (n : ℕ). tally_by n (sum_over tallies) answer) over))
+        (λ h g e.
+        let more = ap sum_over e ∙ sum-counted all h in
+        let below = usable-below (sum_over tallies) (sum-consistent tallies each)
+        (omega (arith, ap (λ (t : Tally). t.blocks) more, blocks-counted (sum_over tallies) c.call)) in
+        more ∙ sym (ap (λ (n : ℕ). tally_by n (sum_over tallies) answer) below))
+
+  -- and they are tested so
+  in-order : TestedInOrder
+  in-order radio tallies = refl
+
+  unknown-keeps : ltb c.radio radio_count ≡ false → tallies_by tallies c ≡ tallies
+  unknown-keeps = unknown-keeps-if in-order
+
+  by_call : {P : Type 0}
+      → (ltb c.radio radio_count ≡ false → tallies_by tallies c ≡ tallies → P)
+      → ((number : ℕ) → ltb c.radio radio_count ≡ true → tally_number own ≡ suc number
+      → tallies_by tallies c ≡ tallies → P)
+      → (ltb c.radio radio_count ≡ true → tally_number own ≡ 0
+      → tallies_by tallies c ≡ set tallies c.radio (counted own answer) → P) → P
+  by_call {P} = by_call-if in-order {P = P}
+
+  next-consistent : AllConsistent tallies → AllConsistent (tallies_by tallies c)
+  next-consistent = next-consistent-if in-order
+
   next-blocks : length tallies ≡ radio_count
       → ((sum_over tallies).blocks ≤ (sum_over (tallies_by tallies c)).blocks) ×
       ((sum_over (tallies_by tallies c)).blocks ≤ (sum_over tallies).blocks + cond (ltb c.radio radio_count) 1 0)
-  next-blocks all =
-      by_call
-      (λ h e. let b = ap (λ (ts : List Tally). (sum_over ts).blocks) e in (omega arith, omega arith))
-      (λ number h g e. let b = ap (λ (ts : List Tally). (sum_over ts).blocks) e in (omega arith, omega arith))
-      (λ h g e.
-      let b = ap (λ (ts : List Tally). (sum_over ts).blocks) e ∙ ap (λ (t : Tally). t.blocks) (sum-counted all h)
-      ∙ blocks-counted (sum_over tallies) c.call in
-      let one = ap (λ (test : Bool). cond {A = ℕ} test 1 0) h in
-      (omega arith, omega arith))
+  next-blocks = next-blocks-if in-order
 
-  -- up to 1,000,000 blocks the sum is what a call of one tally leaves
   next-sum : length tallies ≡ radio_count → AllConsistent tallies → ltb c.radio radio_count ≡ true
       → (sum_over (tallies_by tallies c)).blocks ≤ most_blocks
       → sum_over (tallies_by tallies c) ≡ tally_by (tally_number (sum_over tallies)) (sum_over tallies) answer
-  next-sum all each known few =
-      by_call
-      (λ h e. absurd (true≢false (sym known ∙ h)))
-      (λ number h g e.
-      let most = full own (each c.radio) g in
-      let over = refused-15 (sum_over tallies)
-      (λ z. let u = usable (sum_over tallies) z in omega (arith, u.blocks-lt, own-blocks tallies c.radio)) in
-      ap sum_over e ∙ sym (ap (λ (n : ℕ). tally_by n (sum_over tallies) answer) over))
-      (λ h g e.
-      let more = ap sum_over e ∙ sum-counted all h in
-      let below = usable-below (sum_over tallies) (sum-consistent tallies each)
-      (omega (arith, ap (λ (t : Tally). t.blocks) more, blocks-counted (sum_over tallies) c.call)) in
-      more ∙ sym (ap (λ (n : ℕ). tally_by n (sum_over tallies) answer) below))
+  next-sum = next-sum-if in-order
 
 -- ---- a run of calls
 
@@ -194,8 +223,8 @@ module _ (tests : TestedInOrder) {known : List CallFor → List Call} (k : Known
       ((sum_over (tallies_after tallies calls)).blocks ≤ (sum_over tallies).blocks + length (known calls))
   blocks-within [] tallies all = (omega arith, omega arith)
   blocks-within (c ∷ calls) tallies all =
-      let later = blocks-within calls (tallies_by tallies c) (next-length tests tallies c all) in
-      let now = next-blocks tests tallies c all in
+      let later = blocks-within calls (tallies_by tallies c) (next-length tallies c all) in
+      let now = next-blocks-if tallies c tests all in
       (omega (arith, later.0, now.0), omega (arith, later.1, now.1, known-length c calls))
 
   -- from consistent tallies
@@ -204,8 +233,8 @@ module _ (tests : TestedInOrder) {known : List CallFor → List Call} (k : Known
       → sum_over (tallies_after tallies calls) ≡ tally_after (sum_over tallies) (known calls)
   sum-of-known [] tallies all each few = sym (ap (tally_after (sum_over tallies)) k.none-known)
   sum-of-known (c ∷ calls) tallies all each few =
-      let next-all = next-length tests tallies c all in
-      let later = sum-of-known calls (tallies_by tallies c) next-all (next-consistent tests tallies c each) few in
+      let next-all = next-length tallies c all in
+      let later = sum-of-known calls (tallies_by tallies c) next-all (next-consistent-if tallies c tests each) few in
       split (ltb c.radio radio_count) refl later
       (omega (arith, (blocks-within calls (tallies_by tallies c) next-all).0))
     where
@@ -216,11 +245,11 @@ module _ (tests : TestedInOrder) {known : List CallFor → List Call} (k : Known
           → sum_over (tallies_after (tallies_by tallies c) calls) ≡ tally_after (sum_over tallies) (known (c ∷ calls))
       split true h later few =
           later
-          ∙ ap (λ (t : Tally). tally_after t (known calls)) (next-sum tests tallies c all each h few)
+          ∙ ap (λ (t : Tally). tally_after t (known calls)) (next-sum-if tallies c tests all each h few)
           ∙ sym (ap (tally_after (sum_over tallies)) (k.kept c calls h))
       split false h later few =
           later
-          ∙ ap (λ (ts : List Tally). tally_after (sum_over ts) (known calls)) (unknown-keeps tests tallies c h)
+          ∙ ap (λ (ts : List Tally). tally_after (sum_over ts) (known calls)) (unknown-keeps-if tallies c tests h)
           ∙ sym (ap (tally_after (sum_over tallies)) (k.left-out c calls h))
 
   -- none of the calls is refused with 15
@@ -231,9 +260,9 @@ module _ (tests : TestedInOrder) {known : List CallFor → List Call} (k : Known
   answered-of-known [] tallies all each few = refl
   answered-of-known (c ∷ calls) tallies all each few =
       ap₂ (λ (r : Result) (rs : List Result). r ∷ rs) (by-own (ltb c.radio radio_count) refl)
-      (answered-of-known calls (tallies_by tallies c) (next-length tests tallies c all)
-      (next-consistent tests tallies c each)
-      (omega (arith, (next-blocks tests tallies c all).1, known-length c calls)))
+      (answered-of-known calls (tallies_by tallies c) (next-length tallies c all)
+      (next-consistent-if tallies c tests each)
+      (omega (arith, (next-blocks-if tallies c tests all).1, known-length c calls)))
     where
       by-own : (test : Bool) → ltb c.radio radio_count ≡ test → answer_for tallies c ≡ answer_without15 c
       by-own true h =
