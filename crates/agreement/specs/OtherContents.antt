@@ -4,7 +4,7 @@
 -- keep the promise of `decode`, of a tallied call, of a call for a radio, of the report, and of the C functions that
 -- answer with what is decoded: `vedrogne_decode`, `vedrogne_decode_radio` and `vedrogne_report`. (`Agreement` has the
 -- two calls that are lent the same contents.)
-use Rattle.std.specs.Prelude.{ℕ, zero, suc, ◌^◌, ◌≤◌, ◌≡◌, refl, List, ◌∷◌, ℤ, length}
+use Rattle.std.specs.Prelude.{ℕ, zero, suc, ◌≡◌, refl, List, ℤ, length}
 use Rattle.std.proofs.Common.{sym, ◌∙◌, arith}
 use Rattle.std.proofs.Math.Path.{ap}
 use Rattle.calls.specs.LentMemory.{written_over, unless_refused, SameWritten}
@@ -13,7 +13,8 @@ use Rattle.calls.specs.Numbers.{first_refusal}
 use Rattle.settings.specs.declared.Settings.{Settings}
 use Rattle.settings.specs.Slices.{Slices, lengths_of}
 use Rattle.decoder.specs.declared.Outcome.{Outcome}
-use Rattle.decoder.specs.Decoder.{Ending, Result, refused, ended, result_of, result_by, after, ending, call_number, decode_slices, Decoded}
+use Rattle.decoder.specs.Decoder.{Ending, Result, refused, ended, result_of, result_by, ending, call_number}
+use Rattle.decoder.specs.Decoder.{decode_slices, Decoded}
 use Rattle.decoder.specs.SameDecoding.{SameSlices, SameDecoding}
 use Rattle.decoder.specs.SameDecodingLaws.{old-contents-unread, same-slices-first}
 use Rattle.tally.specs.declared.Tally.{Tally}
@@ -23,9 +24,10 @@ use Rattle.radios.specs.declared.Radios.{Radios}
 use Rattle.radios.specs.declared.RadioTallied.{RadioTallied}
 use Rattle.radios.specs.Radios.{radio_call_number, tallies_counted, RadioDecode}
 use Rattle.scan.specs.Reading.{Reading}
-use Rattle.report_input.specs.Input.{tested}
 use Rattle.report_text.specs.Report.{report}
-use Rattle.vedrogne.specs.Interface.{settings_in, settings_list_number, radio_first_number, tallies_list_after, result_number, iterations_out, reason_out, Lent, call_result, lent_after, DecodeCall, RadioCall}
+use Rattle.vedrogne.specs.Interface.{settings_in, settings_list_number, radio_first_number, tallies_list_after}
+use Rattle.vedrogne.specs.Interface.{result_number, iterations_out, reason_out, Lent, call_result, lent_after}
+use Rattle.vedrogne.specs.Interface.{DecodeCall, RadioCall}
 use Rattle.vedrogne.specs.TextCalls.{report_call_number, TextCall}
 use Rattle.agreement.specs.SameDecoding.{under, list_under, TextsDiffer}
 use Rattle.agreement.specs.Agreement.{criteria-agree as agree, report-agrees}

@@ -2,4 +2,3 @@
 // the report, and of the C functions that decode.
 // It sees the definitions that their contracts cite, and their laws. It has no function: all of it is in specs/.
 #![tactic(auto)]
-

@@ -24,7 +24,8 @@ use Rattle.independence.specs.Outcome.{mark-flipped, ending-same, final-soft, fi
 
 -- ---- the coder: u is 0 where the mask is not, and the block sent holds the coded bits
 
-pub frozen-zero : (mask message : List ℕ) (i : ℕ) → is_information (get_or mask i 0) ≡ false → u_bit mask message i ≡ false
+pub frozen-zero : (mask message : List ℕ) (i : ℕ) → is_information (get_or mask i 0) ≡ false
+    → u_bit mask message i ≡ false
 frozen-zero mask message i frozen =
     kind-frozen (bit_of (get_or message (information_count mask i) 0)) (λ bit. bit) (get_or mask i 0) frozen
     ∙ frozen-bit-zero (get_or mask i 0)

@@ -4,4 +4,3 @@
 // It sees the definitions that the contracts of coder, fronts and decoder cite, and their laws. It has no function:
 // all of it is in specs/.
 #![tactic(auto)]
-

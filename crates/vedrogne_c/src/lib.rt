@@ -1,5 +1,5 @@
-// The exports of the C interface, as include/vedrogne.h declares them: each calls the function of `vedrogne` that has its
-// name, with the same clauses.
+// The exports of the C interface, as include/vedrogne.h declares them: each calls the function of `vedrogne` that has
+// its name, with the same clauses.
 // It sees `vedrogne`, and the definitions that its promises cite. A slice is a pointer and a length in elements, two
 // parameters in C. No function requires anything of the values handed in.
 #![tactic(auto)]
@@ -12,7 +12,8 @@ ghost use Rattle.settings.specs.Slices.{slices};
 ghost use Rattle.report_input.specs.Input.{block_of};
 ghost use Rattle.report_text.specs.Report.{report};
 ghost use Rattle.report_writer.specs.Writer.{tidy_text};
-ghost use Rattle.vedrogne.specs.Interface.{code_in, receiver_in, settings_in, settings_list_number, lent, DecodeCall, RadioCall};
+ghost use Rattle.vedrogne.specs.Interface.{code_in, receiver_in, settings_in, settings_list_number, lent, DecodeCall};
+ghost use Rattle.vedrogne.specs.Interface.{RadioCall};
 ghost use Rattle.vedrogne.specs.TextCalls.{read_meaning, ReadCall};
 ghost use Rattle.vedrogne.specs.TextCalls.{write_call_number, report_call_number, TextCall};
 

@@ -17,7 +17,8 @@ pub write-requires-clause-every_tally : goal.write-requires-clause-every_tally
 write-requires-clause-every_tally c =
     let tallies : List Tally = c.read-list.result.radios.tallies in
     let text : List ℕ = c.args.text.now in
-    let means : (answer : Answer) → c.read-list.result.answer ≡ answer → meaning text ≡ meant answer tallies = λ _ told. sym c.read-list.ensures.answer ∙ ap (λ (answer : Answer). meant answer tallies) told in
+    let means : (answer : Answer) → c.read-list.result.answer ≡ answer → meaning text ≡ meant answer tallies =
+    λ _ told. sym c.read-list.ensures.answer ∙ ap (λ (answer : Answer). meant answer tallies) told in
     (list-usable-or-full (text) (tallies) (means _ c.in-Done.is))
 
 pub refused-requires : goal.refused-requires
@@ -28,21 +29,29 @@ unfolding summary
 returns-in-Done-clause-wrote c =
     let tallies : List Tally = c.read-list.result.radios.tallies in
     let text : List ℕ = c.args.text.now in
-    let means : (answer : Answer) → c.read-list.result.answer ≡ answer → meaning text ≡ meant answer tallies = λ _ told. sym c.read-list.ensures.answer ∙ ap (λ (answer : Answer). meant answer tallies) told in
-    let w = c.write in (subst (λ (bytes : List ℕ). Wrote c.args.out.now 0 bytes w.new.out w.result) (sym (ap text_of (means _ c.in-Done.is))) w.ensures.wrote)
+    let means : (answer : Answer) → c.read-list.result.answer ≡ answer → meaning text ≡ meant answer tallies =
+    λ _ told. sym c.read-list.ensures.answer ∙ ap (λ (answer : Answer). meant answer tallies) told in
+    let w = c.write in (subst (λ (bytes : List ℕ). Wrote c.args.out.now 0 bytes w.new.out w.result)
+    (sym (ap text_of (means _ c.in-Done.is))) w.ensures.wrote)
 
 pub returns-in-Refused-clause-wrote : goal.returns-in-Refused-clause-wrote
 unfolding summary
 returns-in-Refused-clause-wrote c =
     let tallies : List Tally = c.read-list.result.radios.tallies in
     let text : List ℕ = c.args.text.now in
-    let means : (answer : Answer) → c.read-list.result.answer ≡ answer → meaning text ≡ meant answer tallies = λ _ told. sym c.read-list.ensures.answer ∙ ap (λ (answer : Answer). meant answer tallies) told in
-    let w = c.refused in (subst (λ (bytes : List ℕ). Wrote c.args.out.now 0 bytes w.new.out w.result) (sym (ap text_of (means _ c.in-Refused.is))) w.ensures)
+    let means : (answer : Answer) → c.read-list.result.answer ≡ answer → meaning text ≡ meant answer tallies =
+    λ _ told. sym c.read-list.ensures.answer ∙ ap (λ (answer : Answer). meant answer tallies) told in
+    let w = c.refused in
+    (subst (λ (bytes : List ℕ). Wrote c.args.out.now 0 bytes w.new.out w.result)
+    (sym (ap text_of (means _ c.in-Refused.is))) w.ensures)
 
 pub returns-in-Refused-clause-within : goal.returns-in-Refused-clause-within
 unfolding summary
 returns-in-Refused-clause-within c =
     let tallies : List Tally = c.read-list.result.radios.tallies in
     let text : List ℕ = c.args.text.now in
-    let means : (answer : Answer) → c.read-list.result.answer ≡ answer → meaning text ≡ meant answer tallies = λ _ told. sym c.read-list.ensures.answer ∙ ap (λ (answer : Answer). meant answer tallies) told in
-    let w = c.refused in (wrote-within w.ensures (omega (arith, w.ensures.next-is, refusal-length c.in-Refused.refusal, c.refused-arg-1.given.0.1)))
+    let means : (answer : Answer) → c.read-list.result.answer ≡ answer → meaning text ≡ meant answer tallies =
+    λ _ told. sym c.read-list.ensures.answer ∙ ap (λ (answer : Answer). meant answer tallies) told in
+    let w = c.refused in
+    (wrote-within w.ensures
+    (omega (arith, w.ensures.next-is, refusal-length c.in-Refused.refusal, c.refused-arg-1.given.0.1)))
