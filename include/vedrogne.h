@@ -3,7 +3,7 @@
  * and of their reports.
  *
  * x86-64 Linux only: the archive is code for that processor and system. It needs the C library alone.
- *   from the repository    rt staticlib vedrogne            (proves the library, writes target/staticlib/libvedrogne.a)
+ *   from the repository    make                            (proves the library, builds target/staticlib/libvedrogne.a)
  *                          cc -Iinclude yours.c target/staticlib/libvedrogne.a -o yours
  *   after `make install`   cc yours.c $(pkg-config --cflags --libs vedrogne) -o yours
  *

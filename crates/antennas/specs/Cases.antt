@@ -44,7 +44,8 @@ unfolding of_bits mul add neg lt quantised
 halves = refl
 
 -- each factor is its own branch's: 1 and 2 times 1, with 3 and 0, and with 0 and 3
-own-factors : llr_of_two 31 unequal (float 0x4040_0000) (float 0) ∷ llr_of_two 31 unequal (float 0) (float 0x4040_0000) ∷ []
+own-factors : llr_of_two 31 unequal (float 0x4040_0000) (float 0) ∷ llr_of_two 31 unequal (float 0) (float 0x4040_0000)
+    ∷ []
     ≡ pos 3 ∷ pos 6 ∷ []
 unfolding of_bits mul add neg lt quantised
 own-factors = refl

@@ -1,7 +1,8 @@
 -- Laws of the front for two antennas, each for every float and every receiver: an LLR is no larger than the ceiling and
 -- odd in its pair of samples, also where samples are flipped at some places; the branches may be exchanged; opposite
 -- products give 0, also where they are too large for the format.
-use Rattle.std.specs.Prelude.{ℕ, zero, suc, ◌^◌, ◌≤◌, ◌<◌, ◌≡◌, refl, Bool, true, false, not, List, ℤ, pos, negsuc, neg_ℤ, nat_abs, T, leb, length, get_or, Float}
+use Rattle.std.specs.Prelude.{ℕ, zero, suc, ◌^◌, ◌≤◌, ◌<◌, ◌≡◌, refl, Bool, true, false, not, List, ℤ, pos, negsuc}
+use Rattle.std.specs.Prelude.{neg_ℤ, nat_abs, T, leb, length, get_or, Float}
 use Rattle.std.proofs.Common.{sym, ap, ap₂, ◌∙◌, subst, le_refl}
 use Rattle.std.proofs.Math.Bool.{and_comm}
 use Rattle.std.specs.Float.{nan, inf, fin, binary32}
@@ -139,7 +140,8 @@ llr-of-two-flipped C receiver false x y = refl
 
 -- the number of the answer stays
 pub front-two-number-flipped : (m C : ℕ) (receiver : Receiver) (bit : ℕ → Bool) (samples : Branches) (room : ℕ)
-    → front_two_number m C receiver (flipped_branches (2 ^ m) bit samples) room ≡ front_two_number m C receiver samples room
+    → front_two_number m C receiver (flipped_branches (2 ^ m) bit samples) room
+    ≡ front_two_number m C receiver samples room
 front-two-number-flipped m C receiver bit samples room = simp (length-overwrite, finite-stays)
   where
     finite-stays : (bit : ℕ → Bool) (l : List Float)

@@ -1,8 +1,12 @@
 -- Laws of a sum of two floats, for every two there are: it does not depend on their order, in any format; the whole
 -- number of a 32-bit sum turns its sign with the signs of both, and stays where a zero is added.
-use Rattle.std.specs.Prelude.{ℕ, zero, suc, ◌+◌, ◌-◌, ◌*◌, ◌%◌, ◌^◌, ◌≤◌, ◌<◌, ◌≡◌, Bool, not, cond, ◌&&◌, T, leb, ltb, eqb, ℤ, pos, negsuc, neg_ℤ, Float}
+use Rattle.std.specs.Prelude.{ℕ, zero, suc, ◌+◌, ◌-◌, ◌*◌, ◌%◌, ◌^◌, ◌≤◌, ◌<◌, ◌≡◌, Bool, not, cond, ◌&&◌, T, leb, ltb}
+use Rattle.std.specs.Prelude.{eqb, ℤ, pos, negsuc, neg_ℤ, Float}
 use Rattle.std.proofs.Math.Path.{refl, ap}
-use Rattle.std.proofs.Common.{sym, ◌∙◌, subst, zero-mul, mul-pos, mul_comm, mul-one, mul_assoc, mul_right_comm, add_comm, add-zero, not-suc-le-zero, le_of_suc-le-suc, lt_of_not-le, not-le_of_lt, lt_of_mul-lt-mul_right, mul-lt-mul_of_pos_right, arith, leb→le, ltb→lt, pow_pos, pow-add, ltb-true, ltb-false}
+use Rattle.std.proofs.Common.{sym, ◌∙◌, subst, zero-mul, mul-pos, mul_comm, mul-one, mul_assoc, mul_right_comm}
+use Rattle.std.proofs.Common.{add_comm, add-zero, not-suc-le-zero, le_of_suc-le-suc, lt_of_not-le, not-le_of_lt}
+use Rattle.std.proofs.Common.{lt_of_mul-lt-mul_right, mul-lt-mul_of_pos_right, arith, leb→le, ltb→lt, pow_pos, pow-add}
+use Rattle.std.proofs.Common.{ltb-true, ltb-false}
 use Rattle.std.proofs.Math.Bool.{true, false}
 use Rattle.std.proofs.Math.Nat.{sub-zero}
 use Rattle.std.proofs.Math.Pow.{pow-lt}

@@ -1,6 +1,7 @@
 -- With a branch of zeros the front for two antennas is that of one antenna, for every float in the other branch and
 -- every receiver: the same number, and the same LLRs.
-use Rattle.std.specs.Prelude.{ℕ, zero, suc, ◌*◌, ◌^◌, ◌≤◌, ◌<◌, ◌≡◌, refl, Bool, true, false, ◌&&◌, ◌||◌, List, ℤ, pos, T, leb, eqb, length, get_or, Float}
+use Rattle.std.specs.Prelude.{ℕ, zero, suc, ◌*◌, ◌^◌, ◌≤◌, ◌<◌, ◌≡◌, refl, Bool, true, false, ◌&&◌, ◌||◌, List, ℤ, pos}
+use Rattle.std.specs.Prelude.{T, leb, eqb, length, get_or, Float}
 use Rattle.std.proofs.Common.{sym, ap, ap₂, ◌∙◌, subst, le_refl, zero-mul, mul-pos, arith, le-leb, eqb-true}
 use Rattle.std.specs.Bool.{beq}
 use Rattle.std.proofs.Math.Bool.{and-true}
@@ -136,6 +137,9 @@ module _ (m C : ℕ) (receiver : Receiver) (samples : Branches) (above : is_abov
 -- the second branch
 module _ (m C : ℕ) (receiver : Receiver) (samples : Branches) (usable : is_above_zero receiver.second ≡ true)
     (zeros : all_zero (2 ^ m) samples.second ≡ true) where
+  zero-at : (i : ℕ) → i < 2 ^ m → eq (get_or samples.second i nan) (fin false 0 (pos 0)) ≡ true
+  zero-at i h = every-at (2 ^ m) i (λ j. eq (get_or samples.second j nan) (fin false 0 (pos 0))) zeros h
+
   pub second-zeros-number : (room : ℕ)
       → front_two_number m C receiver samples room ≡ front_number m C (Gaussian receiver.first) samples.first room
   second-zeros-number room =

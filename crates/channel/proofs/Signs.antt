@@ -30,7 +30,8 @@ pub filled-by-sign : (n C : ℕ) (samples : List Float) (old : List ℤ) (size :
     → overwrite n (λ i. by_sign (get_or samples i nan) z) old
     ≡ overwrite n (λ i. quantised C (with_sample_sign (get_or samples i nan) size)) old
 filled-by-sign n C samples old size z e =
-    overwrite-same n (λ i. by_sign (get_or samples i nan) z) (λ i. quantised C (with_sample_sign (get_or samples i nan) size))
+    overwrite-same n (λ i. by_sign (get_or samples i nan) z)
+    (λ i. quantised C (with_sample_sign (get_or samples i nan) size))
     old
     (λ i h k. ap (by_sign (get_or samples i nan)) e ∙ sym (sign-last C (get_or samples i nan) size))
 

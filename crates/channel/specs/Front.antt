@@ -1,6 +1,7 @@
 -- Document 01, "From samples to LLRs", and the front's lines of "Numbers by who causes them". Definitions only. A float
 -- is its value, as `lib.Ieee` has it: `nan`, `inf s`, or `fin s m e`, which is m * 2 ^ e, negative where s is true.
-use Rattle.std.specs.Prelude.{ℕ, zero, suc, ◌+◌, ◌*◌, ◌/◌, ◌^◌, Bool, true, false, not, ◌&&◌, cond, List, leb, eqb, ℤ, pos, length, get_or, Float}
+use Rattle.std.specs.Prelude.{ℕ, zero, suc, ◌+◌, ◌*◌, ◌/◌, ◌^◌, Bool, true, false, not, ◌&&◌, cond, List, leb, eqb, ℤ}
+use Rattle.std.specs.Prelude.{pos, length, get_or, Float}
 use Rattle.std.specs.Float.{nan, inf, fin, binary32}
 use Rattle.std.specs.Float.Ieee.{up, down, neg, mul}
 use Rattle.calls.specs.Bounds.{largest_m, largest_ceiling}

@@ -1,8 +1,11 @@
 -- Laws of the front's definitions, each for every float and every channel: what a front that refuses nothing has
 -- tested; `nearest` is the nearest whole number; an LLR is no larger than the ceiling and odd in its sample; samples
 -- flipped at some places give the same number and the LLRs flipped at those places.
-use Rattle.std.specs.Prelude.{ℕ, zero, suc, ◌+◌, ◌*◌, ◌/◌, ◌^◌, ◌≤◌, ◌<◌, ◌≡◌, refl, Bool, true, false, not, cond, List, [], ◌∷◌, leb, ltb, eqb, ℤ, pos, negsuc, neg_ℤ, nat_abs, length, get_or, Float}
-use Rattle.std.proofs.Common.{zero-le, sym, ap, ap₂, ◌∙◌, le_refl, le_trans, mul-pos, zero-lt-suc, not-suc-le-zero, le_of_suc-le-suc, div-lt_iff_lt-mul, le-div_iff_mul-le, add-one, arith, leb-true, leb-false, le-leb}
+use Rattle.std.specs.Prelude.{ℕ, zero, suc, ◌+◌, ◌*◌, ◌/◌, ◌^◌, ◌≤◌, ◌<◌, ◌≡◌, refl, Bool, true, false, not, cond, List}
+use Rattle.std.specs.Prelude.{[], ◌∷◌, leb, ltb, eqb, ℤ, pos, negsuc, neg_ℤ, nat_abs, length, get_or, Float}
+use Rattle.std.proofs.Common.{zero-le, sym, ap, ap₂, ◌∙◌, le_refl, le_trans, mul-pos, zero-lt-suc, not-suc-le-zero}
+use Rattle.std.proofs.Common.{le_of_suc-le-suc, div-lt_iff_lt-mul, le-div_iff_mul-le, add-one, arith, leb-true}
+use Rattle.std.proofs.Common.{leb-false, le-leb}
 use Rattle.std.proofs.Math.Nat.{mul-div-le, lt-mul-div-succ}
 use Rattle.std.proofs.Math.IntN.{neg_ℤ-neg_ℤ}
 use Rattle.std.specs.Int.Signed.{mag}
@@ -81,7 +84,8 @@ rounded-bound C n d h = by-test (leb (C * d) n) refl
     by-test false e =
         let up : nearest n d ≤ (2 * n + d) / (2 * d) = omega arith in
         let least : (2 * n + d) / (2 * d) ≤ C =
-        le_of_suc-le-suc ((div-lt_iff_lt-mul {k = 2 * d} (mul-pos (zero-lt-suc 1) h)).1 (below (leb-false (C * d) n e))) in
+        le_of_suc-le-suc ((div-lt_iff_lt-mul {k = 2 * d} (mul-pos (zero-lt-suc 1) h)).1 (below (leb-false (C * d) n e)))
+        in
         le_trans up least
 
 -- whether the size reaches the ceiling, and its whole number, depend only on the value of the fraction

@@ -38,7 +38,8 @@ byte-eqb false (suc zero) h = refl
 byte-eqb true zero h = refl
 byte-eqb true (suc zero) h = refl
 
-untied-bit : (n : ℕ) (l : List ℕ) → MarkBytes n l → untied n (λ i. get_or l i 0) ≡ true → (i : ℕ) → i < n → get_or l i 0 ≤ 1
+untied-bit : (n : ℕ) (l : List ℕ) → MarkBytes n l → untied n (λ i. get_or l i 0) ≡ true → (i : ℕ) → i < n
+    → get_or l i 0 ≤ 1
 untied-bit n l h e i q =
     let two : get_or l i 0 ≡ 2 → ⊥ = eqb-false _ _ (not-true _ (every-at n i (λ i. not (eqb (get_or l i 0) 2)) e q)) in
     go (get_or l i 0) (h.at i q) two
@@ -78,7 +79,8 @@ module _ {m : ℕ} {marks x : List ℕ} (h : Holds m marks x) where
         rw becomes (overwrite-at (2 ^ m) (λ i. byte_of (coded m (bits_of x) i)) x i 0 q l)
         ∙ ap byte_of (coded-same m i (bits_of x) (λ j. bit_of (get_or marks j 0)) (λ j l. ap bit_of (h.at j l)))
 
-    pub compared : {coded_marks : List ℕ} → MarkBytes (2 ^ m) coded_marks → untied (2 ^ m) (λ i. get_or marks i 0) ≡ true
+    pub compared : {coded_marks : List ℕ} → MarkBytes (2 ^ m) coded_marks
+        → untied (2 ^ m) (λ i. get_or marks i 0) ≡ true
         → untied (2 ^ m) (λ i. get_or coded_marks i 0) ≡ true
         → every (2 ^ m) (λ i. eqb (get_or y i 0) (get_or coded_marks i 0))
         ≡ g_matrix m (λ i. get_or marks i 0) (λ i. get_or coded_marks i 0)

@@ -1,6 +1,7 @@
 -- Laws of the criteria: each reads the first 2 ^ m places alone, and none changes where the signs of the soft outputs
 -- turn with the bits u and those of the coded soft outputs with the coded bits.
-use Rattle.std.specs.Prelude.{ℕ, zero, suc, ◌-◌, ◌^◌, ◌≤◌, ◌<◌, ◌≡◌, refl, Bool, true, false, not, ◌&&◌, List, leb, eqb, ℤ, pos, negsuc, nat_abs}
+use Rattle.std.specs.Prelude.{ℕ, zero, suc, ◌-◌, ◌^◌, ◌≤◌, ◌<◌, ◌≡◌, refl, Bool, true, false, not, ◌&&◌, List, leb, eqb}
+use Rattle.std.specs.Prelude.{ℤ, pos, negsuc, nat_abs}
 use Rattle.std.proofs.Common.{sym, ap, ap₂, ◌∙◌, true≢false, arith}
 use Rattle.std.proofs.Math.Path.{fun_ext}
 use Rattle.std.specs.Bool.{beq}
@@ -153,7 +154,8 @@ module _ (m : ℕ) (u : ℕ → Bool) (soft soft' coded_soft coded_soft' : ℕ �
   abbrev bits : ℕ → Bool
   bits j = bit_of (mark_of (soft j))
 
-  compared : untied (2 ^ m) (λ i. mark_of (soft i)) ≡ true → untied (2 ^ m) (λ i. mark_of (coded_soft i)) ≡ true → (i : ℕ)
+  compared : untied (2 ^ m) (λ i. mark_of (soft i)) ≡ true → untied (2 ^ m) (λ i. mark_of (coded_soft i)) ≡ true
+      → (i : ℕ)
       → i < 2 ^ m
       → beq (coded m (λ j. bit_of (mark_of (soft' j))) i) (bit_of (mark_of (coded_soft' i)))
       ≡ beq (coded m bits i) (bit_of (mark_of (coded_soft i)))
@@ -168,7 +170,11 @@ module _ (m : ℕ) (u : ℕ → Bool) (soft soft' coded_soft coded_soft' : ℕ �
   g-matrix-flipped =
       let marks = untied (2 ^ m) (λ i. mark_of (soft i)) in
       let coded_marks = untied (2 ^ m) (λ i. mark_of (coded_soft i)) in
-      rw (untied-flipped (2 ^ m) u soft soft' flips, untied-flipped (2 ^ m) (coded m u) coded_soft coded_soft' coded_flips)
+      rw (
+        untied-flipped (2 ^ m) u soft soft' flips,
+        untied-flipped (2 ^ m) (coded m u) coded_soft coded_soft'
+            coded_flips,
+      )
       (where-true (marks && coded_marks) _ _
       (λ e. every-same (2 ^ m) _ _ (compared (and-passed marks coded_marks e).0 (and-passed marks coded_marks e).1)))
 

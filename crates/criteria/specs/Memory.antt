@@ -46,7 +46,8 @@ count_for (LeastInformationSize operand) count = 0
 abbrev pub nothing : Memory
 nothing = record { iterations = 0; steady = 0 }
 
--- after t iterations, where soft t i and coded_soft t i are the soft outputs of iteration t at position i, as in `holds`
+-- after t iterations, where soft t i and coded_soft t i are the soft outputs of iteration t at position i, as in
+-- `holds`
 abbrev pub memory_after : ℕ → Criterion → List ℕ → (ℕ → ℕ → ℤ) → (ℕ → ℕ → ℤ) → ℕ → Memory
 memory_after m criterion mask soft coded_soft t =
     record { iterations = t; steady = count_for criterion (steady_count (kept_marks m mask soft) t) }

@@ -106,7 +106,8 @@ module _ (m : ℕ) (criterion : Criterion) (mask : List ℕ) (soft coded_soft : 
   count-le (Steady W) = steady-count-le kept_at t
   count-le (LeastInformationSize operand) = zero-le
 
-  pub memory-in-range : {memory : Memory} → memory ≡ memory_after m criterion mask soft coded_soft t → t < most_remembered
+  pub memory-in-range : {memory : Memory} → memory ≡ memory_after m criterion mask soft coded_soft t
+      → t < most_remembered
       → MemoryInRange memory
   memory-in-range is l = rw is record { iterations-lt = l; steady-le = count-le criterion }
 
@@ -149,7 +150,8 @@ module _ (m : ℕ) (criterion : Criterion) (mask : List ℕ) (soft coded_soft : 
     holds-next is = rw is (by-criterion criterion)
       where
         by-criterion : (c : Criterion)
-            → holds_now m c mask (memory_after m c mask soft coded_soft (suc t)) value (λ i. mark_of (value i)) coded_mark
+            → holds_now m c mask (memory_after m c mask soft coded_soft (suc t)) value (λ i. mark_of (value i))
+            coded_mark
             ≡ holds m c mask soft coded_soft (suc t)
         by-criterion Never = refl
         by-criterion GMatrix = g-matrix-same m _ _ coded_mark _ (λ i l. ap mark_of (values i l)) coded_marks

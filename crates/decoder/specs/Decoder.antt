@@ -75,7 +75,8 @@ pub record Ending : Type 0 where
 abbrev pub ending_from : (ℕ → Bool) → ℕ → ℕ → Ending
 ending_from holds_at t zero =
     cond (holds_at t) (record { iteration = t; reason = 1 }) (record { iteration = t; reason = 2 })
-ending_from holds_at t (suc n) = cond (holds_at t) (record { iteration = t; reason = 1 }) (ending_from holds_at (suc t) n)
+ending_from holds_at t (suc n) =
+    cond (holds_at t) (record { iteration = t; reason = 1 }) (ending_from holds_at (suc t) n)
 
 -- from 1 to the limit T
 abbrev pub ending_of : (ℕ → Bool) → ℕ → Ending

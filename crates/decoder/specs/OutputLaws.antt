@@ -1,6 +1,7 @@
 -- Laws of the outputs: the size of a soft output, what it is at either kind of position, how a turned sign comes out of
 -- it, and slices that take the outputs of a workspace.
-use Rattle.std.specs.Prelude.{ℕ, zero, suc, ◌^◌, ◌≤◌, ◌<◌, ◌≡◌, refl, Bool, true, false, List, ℤ, pos, nat_abs, length, get_or}
+use Rattle.std.specs.Prelude.{ℕ, zero, suc, ◌^◌, ◌≤◌, ◌<◌, ◌≡◌, refl, Bool, true, false, List, ℤ, pos, nat_abs, length}
+use Rattle.std.specs.Prelude.{get_or}
 use Rattle.std.proofs.Common.{sym, ap, subst, ◌∙◌, le_refl, arith}
 use Rattle.calls.specs.LentMemoryLaws.{length-overwrite, overwrite-at, overwrite-twice}
 use Rattle.calls.specs.Signs.{flipped}
@@ -10,13 +11,12 @@ use Rattle.polar.specs.MaskLaws.{kind-information, kind-frozen, kind-either, kin
 use Rattle.message.specs.declared.MinSum.{MinSum}
 use Rattle.message.specs.Message.{add}
 use Rattle.message.specs.MessageLaws.{add-size, add-flipped}
-use Rattle.sweeps.specs.Workspace.{L, R}
 use Rattle.criteria.specs.Marks.{mark_of}
 use Rattle.settings.specs.declared.Settings.{Settings}
 use Rattle.settings.specs.declared.Lengths.{Lengths}
 use Rattle.settings.specs.Slices.{Slices, lengths_of}
 use Rattle.settings.specs.SlicesLaws.{OutputsFit, slices-same}
-use Rattle.decoder.specs.Decoder.{rule_of, soft_of, soft_at, mark_at, coded_soft_at, coded_mark_at, outputs_of}
+use Rattle.decoder.specs.Decoder.{soft_of, soft_at, mark_at, coded_soft_at, coded_mark_at, outputs_of}
 
 -- ---- a soft output
 
@@ -46,6 +46,9 @@ mark-positive zero some = absurd (omega arith)
 mark-positive (suc n) some = refl
 
 module _ (s : Settings) (mask : List ℕ) (w : List ℤ) (i : ℕ) (frozen : is_information (get_or mask i 0) ≡ false) where
+  certain : soft_at s mask w i ≡ flipped (frozen_bit (get_or mask i 0)) (pos s.ceiling)
+  certain = kind-frozen _ _ (get_or mask i 0) frozen
+
   pub frozen-size-at : nat_abs (soft_at s mask w i) ≡ s.ceiling
   frozen-size-at =
       ap nat_abs (kind-frozen _ _ (get_or mask i 0) frozen)

@@ -1,6 +1,7 @@
 -- What the decoder can answer (a refusal from 1 to 10, or an ending at an iteration from 1 to the largest limit by
 -- reason 1 or 2), and what an accepted call writes at each place.
-use Rattle.std.specs.Prelude.{ℕ, zero, suc, ◌+◌, ◌-◌, ◌^◌, ◌≤◌, ◌<◌, ◌≡◌, refl, Bool, true, false, cond, List, ℤ, pos, get_or}
+use Rattle.std.specs.Prelude.{ℕ, zero, suc, ◌+◌, ◌-◌, ◌^◌, ◌≤◌, ◌<◌, ◌≡◌, refl, Bool, true, false, cond, List, ℤ, pos}
+use Rattle.std.specs.Prelude.{get_or}
 use Rattle.std.proofs.Common.{ap, ap₂, ◌∙◌, arith, lit≤}
 use Rattle.calls.specs.LentMemoryLaws.{overwrite-at}
 use Rattle.calls.specs.Numbers.{check, first_refusal}
@@ -102,6 +103,9 @@ module _ (s : Settings) (mask : List ℕ) (llr : List ℤ) (lent : Slices) where
 -- ---- an accepted call: each place of its outputs
 
 module _ (s : Settings) (mask : List ℕ) (llr : List ℤ) (lent : Slices) (ok : call_number s mask llr lent ≡ 0) where
+  written : decode_slices s mask llr lent ≡ outputs_of s mask (final s mask llr lent.work) lent
+  written = rw ok
+
   fits : OutputsFit (2 ^ s.m) lent
   fits = outputs-fit lent (accepted s mask llr (lengths_of lent) ok).slices
 

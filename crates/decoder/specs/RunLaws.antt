@@ -70,6 +70,14 @@ module _ {s : Settings} {mask : List ℕ} {w : List ℤ} {t : ℕ} {memory : Mem
   marks-before : 1 ≤ t → (i : ℕ) → i < 2 ^ s.m → get_or before.mark i 0 ≡ mark_at s mask (work_after s mask w t) i
   marks-before some i l = marks some i l ∙ ap (λ (v : List ℤ). mark_at s mask v i) h.work-is
 
+  step-memory : r.memory ≡ remembered_after s mask w (suc t)
+  step-memory =
+      step.memory-is
+      ∙ memory-next s.m (criterion_of s) mask (soft_after s mask w) (coded_soft_after s mask w) t
+      (λ i. get_or before.mark i 0) marks-before
+      (soft_at s mask after.work) (λ i l. ap (λ (v : List ℤ). soft_at s mask v i) step-work)
+      (coded_mark_at s after.work) (λ i l. ap (λ (v : List ℤ). coded_mark_at s v i) step-work) h.memory-is
+
   -- each of the three stands by itself, so that a definition that is wrong is refused at each
   pub step-holds : r.holds ≡ holds_after s mask w (suc t)
   step-holds =
@@ -104,7 +112,8 @@ module _ {s : Settings} {mask : List ℕ} {w : List ℤ} {t : ℕ} {memory : Mem
         work-is = step-work;
         memory-is = memory-is;
         none =
-            λ j p q. ⊎_elim (λ e. rw e (sym holds-is ∙ fails)) (λ l. h.none j p (le_of_suc-le-suc l)) (eq-or-lt_of_le q);
+            λ j p q. ⊎_elim (λ e. rw e (sym holds-is ∙ fails)) (λ l. h.none j p (le_of_suc-le-suc l))
+            (eq-or-lt_of_le q);
       }
 
   -- it holds: the run has ended

@@ -269,7 +269,8 @@ fn run(
     work: &mut [i16],
 ) -> Outcome
     requires workspace_valid { WorkspaceValid (rule_of settings) settings.m work.old }
-    requires operand_le_largest_ceiling { (settings.operand ≤ largest_ceiling) × (1 ≤ settings.limit) × (settings.limit ≤ largest_limit) }
+    requires operand_le_largest_ceiling { (settings.operand ≤ largest_ceiling) × (1 ≤ settings.limit)
+        × (settings.limit ≤ largest_limit) }
     requires m_in_bounds { 2 ^ settings.m ≤ length mask.now }
     requires outputs_fit { OutputsFit (2 ^ settings.m)
         (slices soft.old mark.old coded_soft.old coded_mark.old work.old) }

@@ -21,7 +21,8 @@ own-tally-only = refl
 
 -- calls for radios 5, 5 and 63: an ending by either reason and a refusal
 abbrev counted-three : List Tally
-counted-three = tallies_counted 63 (tallies_counted 5 (tallies_counted 5 no_blocks (ended 7 1)) (ended 64 2)) (refused 10)
+counted-three =
+    tallies_counted 63 (tallies_counted 5 (tallies_counted 5 no_blocks (ended 7 1)) (ended 64 2)) (refused 10)
 
 pub counted-in-turn : counted-three ≡ set (set no_blocks 5 (tally 2 1 1 0 71)) 63 (tally 1 0 0 1 0)
 counted-in-turn = refl

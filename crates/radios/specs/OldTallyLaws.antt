@@ -31,7 +31,8 @@ old-radio-goes-on radios radio c after r known old d =
     let tallies = radios.tallies in
     let new = set tallies radio (counted (tally_of radio tallies) (decoded c)) in
     let written = decode_slices c.settings c.mask c.llr c.slices in
-    let accepted = old-tally-accepted radio tallies known old in (
+    let accepted : radio_call_number radio tallies ≡ 0 =
+    rw (lt-ltb radio radio_count known) (same_number (tally_of radio tallies) ∙ old) in (
       d.answer ∙ ap (λ (n : ℕ). answer_by n (decoded c)) accepted,
       d.tallies-are ∙ ap (λ (n : ℕ). unless_refused n new tallies) accepted,
       d.slices ∙ ap (λ (n : ℕ). unless_refused n written c.slices) accepted,

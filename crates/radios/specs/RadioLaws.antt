@@ -1,10 +1,12 @@
 -- Laws of the tallies of the radios: a call leaves the others unchanged, and over any run of calls each tally is what
 -- the calls made for its radio alone would have left.
-use Rattle.std.specs.Prelude.{ℕ, zero, suc, ◌<◌, ◌≡◌, refl, Bool, true, false, cond, List, [], ◌∷◌, eqb, ℤ, length, set, replicate}
+use Rattle.std.specs.Prelude.{ℕ, zero, suc, ◌<◌, ◌≡◌, refl, Bool, true, false, cond, List, [], ◌∷◌, eqb, ℤ, length, set}
+use Rattle.std.specs.Prelude.{replicate}
 use Rattle.std.proofs.Common.{sym, ap, ap₂, ◌∙◌, subst, length-set, get_or-set_same, get_or-set_other, eqb-true, lt-ltb}
 use Rattle.std.proofs.lemmas.List.{get_or-replicate, set-get_or}
 use Rattle.std.proofs.lemmas.Bool.{eqb-false}
 use Rattle.calls.specs.LentMemory.{unless_refused}
+use Rattle.calls.specs.Numbers.{first_refusal}
 use Rattle.settings.specs.declared.Settings.{Settings}
 use Rattle.settings.specs.Slices.{Slices}
 use Rattle.decoder.specs.Decoder.{Result, decode_result}
@@ -14,7 +16,7 @@ use Rattle.tally.specs.Runs.{Call, decoded, none, tally_after, answers, others, 
 use Rattle.tally.specs.TallyLaws.{UsableOrFull, tally-counts, run-usable-or-full}
 use Rattle.radios.specs.declared.Radios.{Radios}
 use Rattle.radios.specs.declared.RadioTallied.{RadioTallied}
-use Rattle.radios.specs.Radios.{radio_count, tally_of, radio_call_number, tallies_counted, RadioDecode}
+use Rattle.radios.specs.Radios.{radio_count, radio_number, tally_of, radio_call_number, tallies_counted, RadioDecode}
 use Rattle.radios.specs.Runs.{
   CallFor,
   no_blocks,
@@ -83,13 +85,18 @@ module _ (radio : ℕ) (tallies : List Tally) (r : Result) where
   own-number h = rw (lt-ltb radio radio_count h)
 
   -- its own tally is what a call of the one tally leaves
-  own-counted : radio < radio_count → length tallies ≡ radio_count
+  own-counted-by : radio_call_number radio tallies ≡ tally_number own → radio < radio_count
+      → length tallies ≡ radio_count
       → tally_of radio (tallies_counted radio tallies r) ≡ tally_by (tally_number own) own r
-  own-counted h all = ap (λ (number : ℕ). tally_of radio (after number)) (own-number h) ∙ by_number (tally_number own)
+  own-counted-by is h all = ap (λ (number : ℕ). tally_of radio (after number)) is ∙ by_number (tally_number own)
     where
       by_number : (number : ℕ) → tally_of radio (after number) ≡ tally_by number own r
       by_number zero = get_or-set_same tallies radio (counted own r) none (rw all h)
       by_number (suc number) = refl
+
+  own-counted : radio < radio_count → length tallies ≡ radio_count
+      → tally_of radio (tallies_counted radio tallies r) ≡ tally_by (tally_number own) own r
+  own-counted h all = own-counted-by (rw (lt-ltb radio radio_count h)) h all
 
 -- "The other 63 come back unchanged", of every call, refused ones too
 pub others-unchanged : {radios : Radios} {radio : ℕ} {s : Settings} {mask : List ℕ} {llr : List ℤ}
@@ -110,20 +117,32 @@ record OwnRun (radio : ℕ) (tallies : List Tally) (calls : List CallFor) (its :
   pub tally-is : tally_of radio (tallies_after tallies calls) ≡ tally_after (tally_of radio tallies) its
   pub answers-are : answers_to radio tallies calls ≡ answers (tally_of radio tallies) its
 
+-- 16 is tested first, then 15 of the radio's own tally. The laws of a run take it from here, so that each of them is
+-- refused where the tests are others
+abbrev pub TestedInOrder : Type 0
+TestedInOrder =
+    (radio : ℕ) (tallies : List Tally)
+    → radio_call_number radio tallies ≡ first_refusal (radio_number radio) (tally_number (tally_of radio tallies))
+
 -- namely over the calls made for it
-module _ (radio : ℕ) (h : radio < radio_count) where
+module _ (tests : TestedInOrder) (radio : ℕ) (h : radio < radio_count) where
+  own-tested : (tallies : List Tally) (at : ℕ) → at < radio_count
+      → radio_call_number at tallies ≡ tally_number (tally_of at tallies)
+  own-tested tallies at few = tests at tallies ∙ rw (lt-ltb at radio_count few)
+
   module _ (tallies : List Tally) (all : length tallies ≡ radio_count) (c : CallFor) where
     own-step : c.radio ≡ radio
         → tally_of radio (tallies_by tallies c)
         ≡ tally_by (tally_number (tally_of radio tallies)) (tally_of radio tallies) (decoded c.call)
-    own-step same = rw (← same) (own-counted c.radio tallies (decoded c.call) (rw same h) all)
+    own-step same =
+        rw (← same)
+        (own-counted-by c.radio tallies (decoded c.call) (own-tested tallies c.radio (rw same h)) (rw same h) all)
 
     own-answer : c.radio ≡ radio
         → answer_for tallies c ≡ answer_by (tally_number (tally_of radio tallies)) (decoded c.call)
     own-answer same =
         rw (← same)
-        (ap (λ (number : ℕ). answer_by number (decoded c.call))
-        (own-number c.radio tallies (decoded c.call) (rw same h)))
+        (ap (λ (number : ℕ). answer_by number (decoded c.call)) (own-tested tallies c.radio (rw same h)))
 
     other_step : (c.radio ≡ radio → ⊥) → tally_of radio (tallies_by tallies c) ≡ tally_of radio tallies
     other_step ne = others-kept c.radio tallies (decoded c.call) radio (λ e. ne (sym e))
@@ -162,7 +181,7 @@ module _ (radio : ℕ) (h : radio < radio_count) where
 pub radio-counts : (radio : ℕ) → radio < radio_count → (calls : List CallFor)
     → tally_of radio (tallies_after no_blocks calls) ≡ counts_over (others (answers_to radio no_blocks calls))
 radio-counts radio h calls =
-    let own = own-run radio h calls no_blocks refl in
+    let own = own-run (λ radio tallies. refl) radio h calls no_blocks refl in
     let zeros = get_or-replicate radio_count radio none none h in
     let its = calls_for radio calls in
     own.tally-is
@@ -177,6 +196,6 @@ pub radio-usable-or-full : (radio : ℕ) → radio < radio_count → (calls : Li
 radio-usable-or-full radio h calls =
     subst UsableOrFull
     (sym
-    ((own-run radio h calls no_blocks refl).tally-is
+    ((own-run (λ radio tallies. refl) radio h calls no_blocks refl).tally-is
     ∙ ap (λ (t : Tally). tally_after t (calls_for radio calls)) (get_or-replicate radio_count radio none none h)))
     (run-usable-or-full (calls_for radio calls))

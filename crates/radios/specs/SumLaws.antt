@@ -1,12 +1,14 @@
 -- Laws of the sum over the radios: up to 1,000,000 blocks in all it is what one tally would have counted over the same
 -- calls, and of so many calls none is refused with 15.
-use Rattle.std.specs.Prelude.{ℕ, zero, suc, ◌+◌, ◌≤◌, ◌<◌, ◌≡◌, refl, Bool, true, false, cond, List, [], ◌∷◌, map, ltb, length, set, replicate}
+use Rattle.std.specs.Prelude.{ℕ, zero, suc, ◌+◌, ◌≤◌, ◌<◌, ◌≡◌, refl, Bool, true, false, cond, List, [], ◌∷◌, map, ltb}
+use Rattle.std.specs.Prelude.{length, set, replicate}
 use Rattle.std.proofs.Common.{sym, ap, ap₂, ◌∙◌, true≢false, arith, ltb-true, ltb-false}
-use Rattle.calls.specs.Numbers.{check}
+use Rattle.calls.specs.Numbers.{check, first_refusal}
+use Rattle.calls.specs.LentMemory.{unless_refused}
 use Rattle.decoder.specs.Decoder.{Result}
 use Rattle.tally.specs.declared.Tally.{Tally}
 use Rattle.tally.specs.Tally.{most_blocks, tally_number, counted, answer_by, tally_by}
-use Rattle.tally.specs.Runs.{decoded, none, plus, tally_after, counts, others}
+use Rattle.tally.specs.Runs.{Call, decoded, none, plus, tally_after, counts, others}
 use Rattle.tally.specs.Private.{single}
 use Rattle.tally.specs.TallyLaws.{
   Consistent,
@@ -22,8 +24,8 @@ use Rattle.tally.specs.TallyLaws.{
   blocks-counted,
   answer-counts,
 }
-use Rattle.radios.specs.Radios.{radio_count, tally_of}
-use Rattle.radios.specs.RadioLaws.{EveryTally, zeros-every, set-every, tallies-length}
+use Rattle.radios.specs.Radios.{radio_count, radio_number, tally_of}
+use Rattle.radios.specs.RadioLaws.{EveryTally, zeros-every, set-every, tallies-length, TestedInOrder}
 use Rattle.radios.specs.Runs.{
   CallFor,
   no_blocks,
@@ -83,12 +85,22 @@ full t fits e = split (ltb t.blocks most_blocks) refl
 
 -- ---- one call, of consistent tallies
 
-module _ (tallies : List Tally) (c : CallFor) where
+module _ (tests : TestedInOrder) (tallies : List Tally) (c : CallFor) where
   abbrev own : Tally
   own = tally_of c.radio tallies
 
   abbrev answer : Result
   answer = decoded c.call
+
+  tested : tallies_by tallies c
+      ≡ unless_refused (first_refusal (radio_number c.radio) (tally_number own))
+      (set tallies c.radio (counted own answer)) tallies
+  tested =
+      ap (λ (number : ℕ). unless_refused number (set tallies c.radio (counted own answer)) tallies)
+      (tests c.radio tallies)
+
+  unknown-keeps : ltb c.radio radio_count ≡ false → tallies_by tallies c ≡ tallies
+  unknown-keeps h = tested ∙ rw h
 
   -- the three ways of a call: refused with 16, refused with 15, counted
   by_call : {P : Type 0}
@@ -100,12 +112,9 @@ module _ (tallies : List Tally) (c : CallFor) where
   by_call {P} unknown unusable taken = split (ltb c.radio radio_count) (tally_number own) refl refl
     where
       split : (test : Bool) (number : ℕ) → ltb c.radio radio_count ≡ test → tally_number own ≡ number → P
-      split false number h e = unknown h (rw h)
-      split true zero h e = taken h e (rw (h, e))
-      split true (suc number) h e = unusable number h e (rw (h, e))
-
-  unknown-keeps : ltb c.radio radio_count ≡ false → tallies_by tallies c ≡ tallies
-  unknown-keeps h = rw h
+      split false number h e = unknown h (unknown-keeps h)
+      split true zero h e = taken h e (tested ∙ rw (h, e))
+      split true (suc number) h e = unusable number h e (tested ∙ rw (h, e))
 
   sum-counted : length tallies ≡ radio_count → ltb c.radio radio_count ≡ true
       → sum_over (set tallies c.radio (counted own answer)) ≡ counted (sum_over tallies) answer
@@ -160,6 +169,82 @@ module _ (tallies : List Tally) (c : CallFor) where
 
 -- ---- a run of calls
 
+-- the calls of a run that 16 doesn't refuse, in their order
+record Known (known : List CallFor → List Call) : Type 0 where
+  pub none-known : known [] ≡ []
+  pub kept : (c : CallFor) (calls : List CallFor) → ltb c.radio radio_count ≡ true
+      → known (c ∷ calls) ≡ c.call ∷ known calls
+  pub left-out : (c : CallFor) (calls : List CallFor) → ltb c.radio radio_count ≡ false
+      → known (c ∷ calls) ≡ known calls
+
+-- the laws of a run take the tests and those calls from here, so that each law below is refused where either is another
+module _ (tests : TestedInOrder) {known : List CallFor → List Call} (k : Known known) where
+  known-length : (c : CallFor) (calls : List CallFor)
+      → length (known (c ∷ calls)) ≡ cond (ltb c.radio radio_count) 1 0 + length (known calls)
+  known-length c calls = split (ltb c.radio radio_count) refl
+    where
+      split : (test : Bool) → ltb c.radio radio_count ≡ test
+          → length (known (c ∷ calls)) ≡ cond test 1 0 + length (known calls)
+      split true h = omega (arith, ap length (k.kept c calls h))
+      split false h = omega (arith, ap length (k.left-out c calls h))
+
+  -- blocks are never taken back, and each call brings one at most
+  blocks-within : (calls : List CallFor) (tallies : List Tally) → length tallies ≡ radio_count
+      → ((sum_over tallies).blocks ≤ (sum_over (tallies_after tallies calls)).blocks) ×
+      ((sum_over (tallies_after tallies calls)).blocks ≤ (sum_over tallies).blocks + length (known calls))
+  blocks-within [] tallies all = (omega arith, omega arith)
+  blocks-within (c ∷ calls) tallies all =
+      let later = blocks-within calls (tallies_by tallies c) (next-length tests tallies c all) in
+      let now = next-blocks tests tallies c all in
+      (omega (arith, later.0, now.0), omega (arith, later.1, now.1, known-length c calls))
+
+  -- from consistent tallies
+  sum-of-known : (calls : List CallFor) (tallies : List Tally) → length tallies ≡ radio_count → AllConsistent tallies
+      → (sum_over (tallies_after tallies calls)).blocks ≤ most_blocks
+      → sum_over (tallies_after tallies calls) ≡ tally_after (sum_over tallies) (known calls)
+  sum-of-known [] tallies all each few = sym (ap (tally_after (sum_over tallies)) k.none-known)
+  sum-of-known (c ∷ calls) tallies all each few =
+      let next-all = next-length tests tallies c all in
+      let later = sum-of-known calls (tallies_by tallies c) next-all (next-consistent tests tallies c each) few in
+      split (ltb c.radio radio_count) refl later
+      (omega (arith, (blocks-within calls (tallies_by tallies c) next-all).0))
+    where
+      split : (test : Bool) → ltb c.radio radio_count ≡ test
+          → sum_over (tallies_after (tallies_by tallies c) calls)
+          ≡ tally_after (sum_over (tallies_by tallies c)) (known calls)
+          → (sum_over (tallies_by tallies c)).blocks ≤ most_blocks
+          → sum_over (tallies_after (tallies_by tallies c) calls) ≡ tally_after (sum_over tallies) (known (c ∷ calls))
+      split true h later few =
+          later
+          ∙ ap (λ (t : Tally). tally_after t (known calls)) (next-sum tests tallies c all each h few)
+          ∙ sym (ap (tally_after (sum_over tallies)) (k.kept c calls h))
+      split false h later few =
+          later
+          ∙ ap (λ (ts : List Tally). tally_after (sum_over ts) (known calls)) (unknown-keeps tests tallies c h)
+          ∙ sym (ap (tally_after (sum_over tallies)) (k.left-out c calls h))
+
+  -- none of the calls is refused with 15
+  answered-of-known : (calls : List CallFor) (tallies : List Tally) → length tallies ≡ radio_count
+      → AllConsistent tallies
+      → (sum_over tallies).blocks + length (known calls) ≤ most_blocks
+      → radio_answers tallies calls ≡ map answer_without15 calls
+  answered-of-known [] tallies all each few = refl
+  answered-of-known (c ∷ calls) tallies all each few =
+      ap₂ (λ (r : Result) (rs : List Result). r ∷ rs) (by-own (ltb c.radio radio_count) refl)
+      (answered-of-known calls (tallies_by tallies c) (next-length tests tallies c all)
+      (next-consistent tests tallies c each)
+      (omega (arith, (next-blocks tests tallies c all).1, known-length c calls)))
+    where
+      by-own : (test : Bool) → ltb c.radio radio_count ≡ test → answer_for tallies c ≡ answer_without15 c
+      by-own true h =
+          let own = tally_of c.radio tallies in
+          let below = usable-below own (each c.radio)
+          (omega (arith, own-blocks tallies c.radio, ap length (k.kept c calls h))) in
+          ap (λ (number : ℕ). answer_by number (decoded c.call)) (tests c.radio tallies) ∙ rw (h, below)
+      by-own false h =
+          ap (λ (number : ℕ). answer_by number (decoded c.call)) (tests c.radio tallies) ∙ rw h
+
+-- the same of the calls that 16 doesn't refuse
 module _ (c : CallFor) (calls : List CallFor) where
   known-call-kept : ltb c.radio radio_count ≡ true → known_calls (c ∷ calls) ≡ c.call ∷ known_calls calls
   known-call-kept h = rw h
@@ -177,86 +262,80 @@ module _ (c : CallFor) (calls : List CallFor) where
       split true = omega arith
       split false = omega arith
 
--- blocks are never taken back, and each call brings one at most
 blocks-between : (calls : List CallFor) (tallies : List Tally) → length tallies ≡ radio_count
     → ((sum_over tallies).blocks ≤ (sum_over (tallies_after tallies calls)).blocks) ×
     ((sum_over (tallies_after tallies calls)).blocks ≤ (sum_over tallies).blocks + length (known_calls calls))
-blocks-between [] tallies all = (omega arith, omega arith)
-blocks-between (c ∷ calls) tallies all =
-    let later = blocks-between calls (tallies_by tallies c) (next-length tallies c all) in
-    let now = next-blocks tallies c all in
-    (omega (arith, later.0, now.0), omega (arith, later.1, now.1, known-calls-length c calls))
+blocks-between calls tallies all =
+    let known : Known known_calls =
+    record { none-known = refl; kept = λ c calls h. rw h; left-out = λ c calls h. rw h } in
+    let tests : TestedInOrder = λ radio tallies. refl in
+    blocks-within tests known calls tallies all
 
--- from consistent tallies
 sum-from : (calls : List CallFor) (tallies : List Tally) → length tallies ≡ radio_count → AllConsistent tallies
     → (sum_over (tallies_after tallies calls)).blocks ≤ most_blocks
     → sum_over (tallies_after tallies calls) ≡ tally_after (sum_over tallies) (known_calls calls)
-sum-from [] tallies all each few = refl
-sum-from (c ∷ calls) tallies all each few =
-    let next-all = next-length tallies c all in
-    let later = sum-from calls (tallies_by tallies c) next-all (next-consistent tallies c each) few in
-    split (ltb c.radio radio_count) refl later (omega (arith, (blocks-between calls (tallies_by tallies c) next-all).0))
-  where
-    split : (test : Bool) → ltb c.radio radio_count ≡ test
-        → sum_over (tallies_after (tallies_by tallies c) calls)
-        ≡ tally_after (sum_over (tallies_by tallies c)) (known_calls calls)
-        → (sum_over (tallies_by tallies c)).blocks ≤ most_blocks
-        → sum_over (tallies_after (tallies_by tallies c) calls) ≡ tally_after (sum_over tallies) (known_calls (c ∷ calls))
-    split true h later few =
-        later
-        ∙ ap (λ (t : Tally). tally_after t (known_calls calls)) (next-sum tallies c all each h few)
-        ∙ sym (ap (tally_after (sum_over tallies)) (known-call-kept c calls h))
-    split false h later few =
-        later
-        ∙ ap (λ (ts : List Tally). tally_after (sum_over ts) (known_calls calls)) (unknown-keeps tallies c h)
-        ∙ sym (ap (tally_after (sum_over tallies)) (unknown-call-left-out c calls h))
+sum-from calls tallies all each few =
+    let known : Known known_calls =
+    record { none-known = refl; kept = λ c calls h. rw h; left-out = λ c calls h. rw h } in
+    let tests : TestedInOrder = λ radio tallies. refl in
+    sum-of-known tests known calls tallies all each few
 
 -- "From zeros and up to 1,000,000 blocks in all, the sum over radios is what the single tally would have counted, calls
 -- refused with 16 left out"
 pub radios-sum : (calls : List CallFor) → (sum_over (tallies_after no_blocks calls)).blocks ≤ most_blocks
     → sum_over (tallies_after no_blocks calls) ≡ tally_after none (known_calls calls)
 radios-sum calls few =
-    sum-from calls no_blocks refl zeros-consistent few
+    let known : Known known_calls =
+    record { none-known = refl; kept = λ c calls h. rw h; left-out = λ c calls h. rw h } in
+    let tests : TestedInOrder = λ radio tallies. refl in
+    sum-of-known tests known calls no_blocks refl zeros-consistent few
     ∙ ap (λ (t : Tally). tally_after t (known_calls calls)) (zeros-sum radio_count)
 
 -- so it is after up to 1,000,000 calls that 16 doesn't refuse
 pub radios-sum-of-calls : (calls : List CallFor) → length (known_calls calls) ≤ most_blocks
     → sum_over (tallies_after no_blocks calls) ≡ tally_after none (known_calls calls)
 radios-sum-of-calls calls few =
-    radios-sum calls
-    (omega (arith, (blocks-between calls no_blocks refl).1, ap (λ (t : Tally). t.blocks) (zeros-sum radio_count)))
+    let known : Known known_calls =
+    record { none-known = refl; kept = λ c calls h. rw h; left-out = λ c calls h. rw h } in
+    let tests : TestedInOrder = λ radio tallies. refl in
+    let blocks = (blocks-within tests known calls no_blocks refl).1 in
+    sum-of-known tests known calls no_blocks refl zeros-consistent
+    (omega (arith, blocks, ap (λ (t : Tally). t.blocks) (zeros-sum radio_count)))
+    ∙ ap (λ (t : Tally). tally_after t (known_calls calls)) (zeros-sum radio_count)
 
 -- ---- 15
 
 answered-from : (calls : List CallFor) (tallies : List Tally) → length tallies ≡ radio_count → AllConsistent tallies
     → (sum_over tallies).blocks + length (known_calls calls) ≤ most_blocks
     → radio_answers tallies calls ≡ map answer_without15 calls
-answered-from [] tallies all each few = refl
-answered-from (c ∷ calls) tallies all each few =
-    ap₂ (λ (r : Result) (rs : List Result). r ∷ rs) (by-own (ltb c.radio radio_count) refl)
-    (answered-from calls (tallies_by tallies c) (next-length tallies c all) (next-consistent tallies c each)
-    (omega (arith, (next-blocks tallies c all).1, known-calls-length c calls)))
-  where
-    by-own : (test : Bool) → ltb c.radio radio_count ≡ test → answer_for tallies c ≡ answer_without15 c
-    by-own true h =
-        let own = tally_of c.radio tallies in
-        let below = usable-below own (each c.radio)
-        (omega (arith, own-blocks tallies c.radio, ap length (known-call-kept c calls h))) in
-        rw (h, below)
-    by-own false h = rw h
+answered-from calls tallies all each few =
+    let known : Known known_calls =
+    record { none-known = refl; kept = λ c calls h. rw h; left-out = λ c calls h. rw h } in
+    let tests : TestedInOrder = λ radio tallies. refl in
+    answered-of-known tests known calls tallies all each few
 
 -- of the first 1,000,000 calls from zeros that 16 doesn't refuse none is refused with 15: each answer is 16 or the
 -- decoder's
 pub radios-answered : (calls : List CallFor) → length (known_calls calls) ≤ most_blocks
     → radio_answers no_blocks calls ≡ map answer_without15 calls
 radios-answered calls few =
-    answered-from calls no_blocks refl zeros-consistent
+    let known : Known known_calls =
+    record { none-known = refl; kept = λ c calls h. rw h; left-out = λ c calls h. rw h } in
+    let tests : TestedInOrder = λ radio tallies. refl in
+    answered-of-known tests known calls no_blocks refl zeros-consistent
     (omega (arith, ap (λ (t : Tally). t.blocks) (zeros-sum radio_count)))
 
 -- so all of them count
 pub none-refused-with-15 : (calls : List CallFor) → length (known_calls calls) ≤ most_blocks
     → others (radio_answers no_blocks calls) ≡ radio_answers no_blocks calls
-none-refused-with-15 calls few = rw (radios-answered calls few) (all-count calls)
+none-refused-with-15 calls few =
+    let known : Known known_calls =
+    record { none-known = refl; kept = λ c calls h. rw h; left-out = λ c calls h. rw h } in
+    let tests : TestedInOrder = λ radio tallies. refl in
+    let answered : radio_answers no_blocks calls ≡ map answer_without15 calls =
+    answered-of-known tests known calls no_blocks refl zeros-consistent
+    (omega (arith, ap (λ (t : Tally). t.blocks) (zeros-sum radio_count))) in
+    rw answered (all-count calls)
   where
     answer-counts-too : (c : CallFor) → counts (answer_without15 c) ≡ true
     answer-counts-too c = by-radio (ltb c.radio radio_count)

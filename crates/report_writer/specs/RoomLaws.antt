@@ -173,6 +173,9 @@ slice s b old number = unless_refused number (written_over (tidy_text s b) old) 
 -- a refusal for one of the decoder's numbers. Here and below each law shows the number by itself, so that each says by
 -- itself where a definition breaks it
 module _ (s : Settings) (b : Block) (old : List ℕ) (r : Refusal) (e : refusal_number r ≡ block_number s b) where
+  number-first : write_number s b (length old) ≡ refusal_number r
+  number-first = rw (← e) (refused-first r _)
+
   pub refused-answer : rejected (refusal_number r) ≡ write_answer s b old
   refused-answer =
       let number-first : write_number s b (length old) ≡ refusal_number r = rw (← e) (refused-first r _) in
@@ -192,6 +195,9 @@ abbrev number_by : ℕ → Bool → ℕ
 number_by number fits = first_refusal number (check fits 7 0)
 
 module _ (s : Settings) (b : Block) (old : List ℕ) (e : block_number s b ≡ 0) where
+  short-number : length old < length (tidy_text s b) → write_number s b (length old) ≡ 7
+  short-number h = ap₂ number_by e (lt-leb (length (tidy_text s b)) (length old) h)
+
   -- 7, for a slice that is too short
   pub short-answer : length old < length (tidy_text s b) → rejected 7 ≡ write_answer s b old
   short-answer h =

@@ -5,7 +5,8 @@ use Rattle.settings.specs.SettingsLaws.{SlicesAccepted}
 
 pub slices-same : {soft soft' : List ℤ} {mark mark' : List ℕ} {coded_soft coded_soft' : List ℤ}
     {coded_mark coded_mark' : List ℕ}
-    {work work' : List ℤ} → soft ≡ soft' → mark ≡ mark' → coded_soft ≡ coded_soft' → coded_mark ≡ coded_mark' → work ≡ work'
+    {work work' : List ℤ} → soft ≡ soft' → mark ≡ mark' → coded_soft ≡ coded_soft' → coded_mark ≡ coded_mark'
+    → work ≡ work'
     → slices soft mark coded_soft coded_mark work ≡ slices soft' mark' coded_soft' coded_mark' work'
 slices-same a b c d e i = slices (a i) (b i) (c i) (d i) (e i)
 

@@ -1,6 +1,7 @@
 -- Laws of the iteration: the workspace keeps its length, all messages stay within the ceiling, and each step of both
 -- sweeps is the one formula of Private over two rows.
-use Rattle.std.specs.Prelude.{ℕ, zero, suc, ◌+◌, ◌-◌, ◌*◌, ◌^◌, ◌≤◌, ◌<◌, ◌≡◌, refl, List, ℤ, pos, nat_abs, length, get_or}
+use Rattle.std.specs.Prelude.{ℕ, zero, suc, ◌+◌, ◌-◌, ◌*◌, ◌^◌, ◌≤◌, ◌<◌, ◌≡◌, refl, List, ℤ, pos, nat_abs, length}
+use Rattle.std.specs.Prelude.{get_or}
 use Rattle.std.proofs.Common.{zero-le, ap, ◌∙◌, le_trans, le_refl, arith}
 use Rattle.std.proofs.Math.Path.{fun_ext}
 use Rattle.calls.specs.Bounds.{largest_m, largest_scale, workspace_length}

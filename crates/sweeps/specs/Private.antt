@@ -1,7 +1,8 @@
 -- Definitions for the contracts of private functions: what the steps of the code compute, in the shape of the code.
 -- Both sweeps take their steps by one formula over two rows, in flat places of the workspace. A reader of the contracts
 -- of `begin` and `iterate` needs none of it.
-use Rattle.std.specs.Prelude.{ℕ, ◌+◌, ◌-◌, ◌*◌, ◌/◌, ◌^◌, ◌≤◌, ◌<◌, ◌≡◌, Bool, cond, List, eqb, ℤ, pos, nat_abs, length, get_or}
+use Rattle.std.specs.Prelude.{ℕ, ◌+◌, ◌-◌, ◌*◌, ◌/◌, ◌^◌, ◌≤◌, ◌<◌, ◌≡◌, Bool, cond, List, eqb, ℤ, pos, nat_abs, length}
+use Rattle.std.specs.Prelude.{get_or}
 use Rattle.std.specs.Int.Bits.{bit_and}
 use Rattle.calls.specs.LentMemory.{overwrite_from}
 use Rattle.polar.specs.Columns.{digit, by_side}
@@ -14,7 +15,8 @@ message_at w j = get_or w j (pos 0)
 
 -- the new messages of an upper position p, and of its partner p + d, from rows that start at x and y
 abbrev pub upper_at : MinSum → ℕ → ℕ → ℕ → List ℤ → ℕ → ℤ
-upper_at rule d x y w p = f rule (message_at w (x + p)) (add rule (message_at w (x + (p + d))) (message_at w (y + (p + d))))
+upper_at rule d x y w p =
+    f rule (message_at w (x + p)) (add rule (message_at w (x + (p + d))) (message_at w (y + (p + d))))
 
 abbrev pub lower_at : MinSum → ℕ → ℕ → ℕ → List ℤ → ℕ → ℤ
 lower_at rule d x y w p = add rule (f rule (message_at w (x + p)) (message_at w (y + p))) (message_at w (x + (p + d)))

@@ -41,7 +41,7 @@ module _ (t : Tally) (old : old_tally_number t ≡ 0) where
   pub old-tally-goes-on : (c : Call) (after : Slices) (r : Tallied)
       → TalliedDecode t c.settings c.mask c.llr c.slices after r → GoesOn t c after r
   old-tally-goes-on c after r d =
-      let accepted = same_number t ∙ old in
+      let accepted : tally_number t ≡ 0 = old in
       let written = decode_slices c.settings c.mask c.llr c.slices in
       let tally = d.tally-is ∙ ap (λ (n : ℕ). tally_by n t (decoded c)) accepted in
       record {
@@ -56,7 +56,8 @@ module _ (t : Tally) (old : old_tally_number t ≡ 0) where
   pub old-tally-run : (calls : List Call) → t.blocks + length calls ≤ 1000000
       → (answers t calls ≡ map decoded calls) × (tally_after t calls ≡ plus t (counts_over (map decoded calls)))
   old-tally-run calls few =
-      let answered = answered-from calls t (same_number t ∙ old) few in
+      let accepted : tally_number t ≡ 0 = old in
+      let answered = answered-from calls t accepted few in
       let counts = ap (λ (rs : List Result). plus t (counts_over (others rs))) answered in
       let all = ap (λ (rs : List Result). plus t (counts_over rs)) (all-count calls) in
       (answered, counted-after calls t ∙ counts ∙ all)

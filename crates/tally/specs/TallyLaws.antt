@@ -1,6 +1,7 @@
 -- Laws of the tally: what 15 lets pass, and that after any run of calls each number of
 -- the tally is the count over them.
-use Rattle.std.specs.Prelude.{ℕ, zero, suc, ◌+◌, ◌*◌, ◌≤◌, ◌<◌, ◌≡◌, refl, Bool, true, false, cond, List, [], ◌∷◌, map, ltb, eqb, length}
+use Rattle.std.specs.Prelude.{ℕ, zero, suc, ◌+◌, ◌*◌, ◌≤◌, ◌<◌, ◌≡◌, refl, Bool, true, false, cond, List, [], ◌∷◌, map}
+use Rattle.std.specs.Prelude.{ltb, eqb, length}
 use Rattle.std.proofs.Common.{sym, ap, ◌∙◌, arith, lit<, ltb-true, eqb-true, lt-ltb, eq-eqb, ne_eqb, le-leb}
 use Rattle.calls.specs.Numbers.{check}
 use Rattle.calls.specs.NumberLaws.{check-passed, and-passed, between-passed}

@@ -55,15 +55,15 @@ refusal-differs : (n : ℕ) (s : Settings) (b : Block) → refusal_text n ≡ ti
 unfolding refusal_text tidy_text
 refusal-differs n s b e = let h : ◌≡◌ {A = ℕ} 114 109 = ap first e in absurd (omega arith)
 
-means-same : (x y : Meaning) → Means x → Means y → tidy_of x ≡ tidy_of y → x ≡ y
-means-same (refused n) (refused k) _ _ e = ap refused (refusal-same n k e)
-means-same (refused n) (block s b) _ _ e = absurd (refusal-differs n s b e)
-means-same (block s b) (refused n) _ _ e = absurd (refusal-differs n s b (sym e))
-means-same (block s b) (block s' b') fit fit' e = sym (fit-means s b fit) ∙ ap meaning e ∙ fit-means s' b' fit'
-
 -- any two texts have the same tidy form exactly where they mean the same: the same settings and block, or a refusal
 -- with the same number
 pub tidy-alike : (t t' : List ℕ)
     → (tidy t ≡ tidy t' → meaning t ≡ meaning t') × (meaning t ≡ meaning t' → tidy t ≡ tidy t')
 unfolding tidy
 tidy-alike t t' = (means-same (meaning t) (meaning t') (meaning-fit t) (meaning-fit t'), λ e. ap tidy_of e)
+  where
+    means-same : (x y : Meaning) → Means x → Means y → tidy_of x ≡ tidy_of y → x ≡ y
+    means-same (refused n) (refused k) _ _ e = ap refused (refusal-same n k e)
+    means-same (refused n) (block s b) _ _ e = absurd (refusal-differs n s b e)
+    means-same (block s b) (refused n) _ _ e = absurd (refusal-differs n s b (sym e))
+    means-same (block s b) (block s' b') fit fit' e = sym (fit-means s b fit) ∙ ap meaning e ∙ fit-means s' b' fit'

@@ -41,7 +41,8 @@ use Rattle.vedrogne.specs.InterfaceLaws.{list-kept, own_read, own-written}
 -- what `result_out` promises of an answer
 abbrev pub ResultOut : Result → ℕ → ℕ → ℕ → ℕ → ℕ → Type 0
 ResultOut answer iterations reason iterations' reason' r =
-    (r ≡ result_number answer) × ((iterations' ≡ iterations_out answer iterations) × (reason' ≡ reason_out answer reason))
+    (r ≡ result_number answer)
+    × ((iterations' ≡ iterations_out answer iterations) × (reason' ≡ reason_out answer reason))
 
 lent_same : {a b : Slices} {i j k l : ℕ} → a ≡ b → i ≡ j → k ≡ l → lent a i k ≡ lent b j l
 lent_same e f g i = lent (e i) (f i) (g i)

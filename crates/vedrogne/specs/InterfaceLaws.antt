@@ -1,6 +1,8 @@
 -- Laws of the C interface: its lists, and the tests before the decoder.
-use Rattle.std.specs.Prelude.{ℕ, zero, suc, ◌+◌, ◌*◌, ◌≤◌, ◌<◌, ◌≡◌, refl, List, [], ◌∷◌, ◌++◌, ℤ, length, get_or, set, take, drop}
-use Rattle.std.proofs.Common.{sym, ap, ap₂, ◌∙◌, append_assoc, arith, add-zero, length-drop, take-append-drop, drop-drop, take-add, get_or-drop, le-leb}
+use Rattle.std.specs.Prelude.{ℕ, zero, suc, ◌+◌, ◌*◌, ◌≤◌, ◌<◌, ◌≡◌, refl, List, [], ◌∷◌, ◌++◌, ℤ, length, get_or, set}
+use Rattle.std.specs.Prelude.{take, drop}
+use Rattle.std.proofs.Common.{sym, ap, ap₂, ◌∙◌, append_assoc, arith, add-zero, length-drop, take-append-drop}
+use Rattle.std.proofs.Common.{drop-drop, take-add, get_or-drop, le-leb}
 use Rattle.std.proofs.lemmas.List.Edits.{sets-eq}
 use Rattle.std.proofs.lemmas.Bool.{lt-leb}
 use Rattle.decoder.specs.Decoder.{Ending, ending, result_by, call_number}
@@ -159,7 +161,8 @@ module _ (tallies settings : List ℕ) where
       → lists_number tallies settings ≡ 7
   lists-settings-short h k = rw (le-leb tallies_length (length tallies) h, lt-leb settings_length (length settings) k)
 
-  pub lists-long : tallies_length ≤ length tallies → settings_length ≤ length settings → lists_number tallies settings ≡ 0
+  pub lists-long : tallies_length ≤ length tallies → settings_length ≤ length settings
+      → lists_number tallies settings ≡ 0
   lists-long h k = rw (le-leb tallies_length (length tallies) h, le-leb settings_length (length settings) k)
 
 -- ---- after a refusal, whoever refuses, the lent slices, iteration and reason are as they were

@@ -68,7 +68,8 @@ module _ {radio : ℕ} {tallies tallies' settings mask : List ℕ} {llr : List �
     pub tallies-after : tallies_in tallies' ≡ tallies_counted radio (tallies_in tallies) answer
     tallies-after =
         ap tallies_in list-after
-        ∙ ap (λ (n : ℕ). tallies_from n (tallies_out new tallies)) (sym (tallies-length radio (tallies_in tallies) answer))
+        ∙ ap (λ (n : ℕ). tallies_from n (tallies_out new tallies))
+        (sym (tallies-length radio (tallies_in tallies) answer))
         ∙ tallies-read new tallies
 
     -- number, all that is lent and the list are what the method `decode` of `Radios` answers and leaves for the same

@@ -33,7 +33,8 @@ pub record ReadCall (means : Meaning) (settings settings' : List ℕ) (before af
 -- ---- the writer and the report
 
 abbrev pub write_call_number : List ℕ → Block → ℕ → ℕ
-write_call_number settings b room = first_refusal (settings_list_number settings) (write_number (settings_in settings) b room)
+write_call_number settings b room =
+    first_refusal (settings_list_number settings) (write_number (settings_in settings) b room)
 
 -- 7, for a slice with fewer than 32,768 elements; a refused text has a report too
 abbrev pub report_call_number : ℕ → ℕ

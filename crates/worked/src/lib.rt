@@ -2,4 +2,3 @@
 // cases, computed from the definitions that the contracts of coder, front and decoder cite (specs/Blocks.antt). It sees
 // those definitions and runs nothing.
 #![tactic(auto)]
-

@@ -21,12 +21,15 @@ quantise-requires-clause-t c =
 
 pub fill_signs-requires-clause-size_bound : goal.fill_signs-requires-clause-size_bound
 fill_signs-requires-clause-size_bound c =
-    let weight-held : to_z w16 (of_z w16 c.quantise.result) ≡ quantised c.args.ceiling c.in-Flipping.weight = to_z-of_z {w = w16} (record { sfits = c.quantise.type_inv }) ∙ c.quantise.ensures in
-    let bound = quantised-bound c.args.ceiling c.in-Flipping.weight in (subst (λ (z : ℤ). nat_abs z ≤ largest_ceiling) (sym (weight-held)) (omega (arith, bound)))
+    let weight-held : to_z w16 (of_z w16 c.quantise.result) ≡ quantised c.args.ceiling c.in-Flipping.weight =
+    to_z-of_z {w = w16} (record { sfits = c.quantise.type_inv }) ∙ c.quantise.ensures in
+    let bound = quantised-bound c.args.ceiling c.in-Flipping.weight in
+    (subst (λ (z : ℤ). nat_abs z ≤ largest_ceiling) (sym (weight-held)) (omega (arith, bound)))
 
 pub returns-in-Flipping : goal.returns-in-Flipping
 returns-in-Flipping c =
-    let weight-held : to_z w16 (of_z w16 c.quantise.result) ≡ quantised c.args.ceiling c.in-Flipping.weight = to_z-of_z {w = w16} (record { sfits = c.quantise.type_inv }) ∙ c.quantise.ensures in
+    let weight-held : to_z w16 (of_z w16 c.quantise.result) ≡ quantised c.args.ceiling c.in-Flipping.weight =
+    to_z-of_z {w = w16} (record { sfits = c.quantise.type_inv }) ∙ c.quantise.ensures in
     let a = c.args in
     rw c.in-Flipping.is
     (c.fill_signs.ensures

@@ -15,7 +15,9 @@ use Rattle.channel.proofs.fill_products.Goals as goal
 
 pub quantise-requires-clause-t : goal.quantise-requires-clause-t
 quantise-requires-clause-t c =
-    let a = c.args in let i = c.loop-i.i in (product-number (get_or a.samples.now i nan) a.factor (sample-finite a.n i a.samples.now (omega arith) c.requires.t_2) c.requires.t)
+    let a = c.args in let i = c.loop-i.i in
+    (product-number (get_or a.samples.now i nan) a.factor
+    (sample-finite a.n i a.samples.now (omega arith) c.requires.t_2) c.requires.t)
 
 pub loop-i-preserved : goal.loop-i-preserved
 loop-i-preserved c =

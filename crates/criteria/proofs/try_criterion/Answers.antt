@@ -11,12 +11,18 @@ use Rattle.criteria.proofs.try_criterion.Goals as goal
 
 pub holds_now-holds-requires-clause-soft_values : goal.holds_now-holds-requires-clause-soft_values
 holds_now-holds-requires-clause-soft_values c =
-    let marked : Written (2 ^ c.args.m) (λ i. mark_of (get_or c.args.soft.now i (pos 0))) c.args.marks.now c.mark_all.new.marks = record { is = rw c.power_of_two.ensures at c.mark_all.ensures } in
-    ((c.requires.soft_values.0, mark-bytes (λ i. get_or c.args.soft.now i (pos 0)) (marked) c.requires.m_in_bounds.1, c.requires.soft_values.1))
+    let marked : Written (2 ^ c.args.m) (λ i. mark_of (get_or c.args.soft.now i (pos 0))) c.args.marks.now
+    c.mark_all.new.marks = record { is = rw c.power_of_two.ensures at c.mark_all.ensures } in
+    ((
+      c.requires.soft_values.0,
+      mark-bytes (λ i. get_or c.args.soft.now i (pos 0)) (marked) c.requires.m_in_bounds.1,
+      c.requires.soft_values.1,
+    ))
 
 pub returns : goal.returns
 returns c =
-    let marked : Written (2 ^ c.args.m) (λ i. mark_of (get_or c.args.soft.now i (pos 0))) c.args.marks.now c.mark_all.new.marks = record { is = rw c.power_of_two.ensures at c.mark_all.ensures } in
+    let marked : Written (2 ^ c.args.m) (λ i. mark_of (get_or c.args.soft.now i (pos 0))) c.args.marks.now
+    c.mark_all.new.marks = record { is = rw c.power_of_two.ensures at c.mark_all.ensures } in
     record {
       marks-are = (marked).is;
       memory-is = c.next-next.ensures;

@@ -21,13 +21,16 @@ run_to_limit-requires-clause-workspace_valid c =
     let settings : Settings = c.args.settings in
     let llr : List ℤ = c.args.llr.now in
     let mask : List ℕ = c.args.mask.now in
-    let passed : call_number (settings) (mask) (llr) (lent) ≡ 0 = sym c.refusal.ensures ∙ ap number_of c.in-Done.is in
-    let tests : Accepted (settings) (mask) (llr) (lengths_of (lent)) = accepted (settings) (mask) (llr) (lengths_of (lent)) passed in
+    let passed : call_number settings mask llr lent ≡ 0 = sym c.refusal.ensures ∙ ap number_of c.in-Done.is in
+    let tests : Accepted settings mask llr (lengths_of lent) =
+    accepted settings mask llr (lengths_of lent) passed in
     let work : List ℤ = c.begin.new.work in
-    let fits : OutputsFit (2 ^ (settings).m) (slices (lent).soft (lent).mark (lent).coded_soft (lent).coded_mark work) = fit-with _ (outputs-fit (lent) (tests).slices) in
-    let work-is : work ≡ start_of (settings) (mask) (llr) (lent).work = c.begin.ensures ∙ ap (λ (rule : MinSum). iteration.start (settings).m rule.ceiling (mask) (llr) (lent).work) c.rule_of.ensures in
-    let valid : WorkspaceValid (rule_of (settings)) (settings).m work = begun-valid (settings) (mask) (llr) (lent) (passed) (tests) _ work-is in
-    (valid)
+    let work-is : work ≡ start_of settings mask llr lent.work =
+    c.begin.ensures ∙ ap (λ (rule : MinSum). iteration.start settings.m rule.ceiling mask llr lent.work)
+    c.rule_of.ensures in
+    let valid : WorkspaceValid (rule_of settings) settings.m work =
+    begun-valid settings mask llr lent passed tests _ work-is in
+    valid
 
 pub returns-then-criterion-eq0 : goal.returns-then-criterion-eq0
 returns-then-criterion-eq0 c =
@@ -35,12 +38,15 @@ returns-then-criterion-eq0 c =
     let llr : List ℤ = c.args.llr.now in
     let mask : List ℕ = c.args.mask.now in
     let settings : Settings = c.args.settings in
-    let passed : call_number (settings) (mask) (llr) (lent) ≡ 0 = sym c.refusal.ensures ∙ ap number_of c.in-Done.is in
-    let tests : Accepted (settings) (mask) (llr) (lengths_of (lent)) = accepted (settings) (mask) (llr) (lengths_of (lent)) passed in
+    let passed : call_number settings mask llr lent ≡ 0 = sym c.refusal.ensures ∙ ap number_of c.in-Done.is in
+    let tests : Accepted settings mask llr (lengths_of lent) =
+    accepted settings mask llr (lengths_of lent) passed in
     let work : List ℤ = c.begin.new.work in
-    let work-is : work ≡ start_of (settings) (mask) (llr) (lent).work = c.begin.ensures ∙ ap (λ (rule : MinSum). iteration.start (settings).m rule.ceiling (mask) (llr) (lent).work) c.rule_of.ensures in
-    decoded-limit (settings) (mask) (llr) (lent) (passed) _ _ _ (work-is)
-    c.if-criterion-eq0.true (tests).settings.limit-some c.run_to_limit.ensures
+    let work-is : work ≡ start_of settings mask llr lent.work =
+    c.begin.ensures ∙ ap (λ (rule : MinSum). iteration.start settings.m rule.ceiling mask llr lent.work)
+    c.rule_of.ensures in
+    decoded-limit settings mask llr lent passed _ _ _ work-is
+    c.if-criterion-eq0.true tests.settings.limit-some c.run_to_limit.ensures
 
 pub run-requires-clause-workspace_valid : goal.run-requires-clause-workspace_valid
 run-requires-clause-workspace_valid c =
@@ -48,13 +54,16 @@ run-requires-clause-workspace_valid c =
     let settings : Settings = c.args.settings in
     let llr : List ℤ = c.args.llr.now in
     let mask : List ℕ = c.args.mask.now in
-    let passed : call_number (settings) (mask) (llr) (lent) ≡ 0 = sym c.refusal.ensures ∙ ap number_of c.in-Done.is in
-    let tests : Accepted (settings) (mask) (llr) (lengths_of (lent)) = accepted (settings) (mask) (llr) (lengths_of (lent)) passed in
+    let passed : call_number settings mask llr lent ≡ 0 = sym c.refusal.ensures ∙ ap number_of c.in-Done.is in
+    let tests : Accepted settings mask llr (lengths_of lent) =
+    accepted settings mask llr (lengths_of lent) passed in
     let work : List ℤ = c.begin.new.work in
-    let fits : OutputsFit (2 ^ (settings).m) (slices (lent).soft (lent).mark (lent).coded_soft (lent).coded_mark work) = fit-with _ (outputs-fit (lent) (tests).slices) in
-    let work-is : work ≡ start_of (settings) (mask) (llr) (lent).work = c.begin.ensures ∙ ap (λ (rule : MinSum). iteration.start (settings).m rule.ceiling (mask) (llr) (lent).work) c.rule_of.ensures in
-    let valid : WorkspaceValid (rule_of (settings)) (settings).m work = begun-valid (settings) (mask) (llr) (lent) (passed) (tests) _ work-is in
-    (valid)
+    let work-is : work ≡ start_of settings mask llr lent.work =
+    c.begin.ensures ∙ ap (λ (rule : MinSum). iteration.start settings.m rule.ceiling mask llr lent.work)
+    c.rule_of.ensures in
+    let valid : WorkspaceValid (rule_of settings) settings.m work =
+    begun-valid settings mask llr lent passed tests _ work-is in
+    valid
 
 pub run-requires-clause-outputs_fit : goal.run-requires-clause-outputs_fit
 run-requires-clause-outputs_fit c =
@@ -62,13 +71,13 @@ run-requires-clause-outputs_fit c =
     let settings : Settings = c.args.settings in
     let llr : List ℤ = c.args.llr.now in
     let mask : List ℕ = c.args.mask.now in
-    let passed : call_number (settings) (mask) (llr) (lent) ≡ 0 = sym c.refusal.ensures ∙ ap number_of c.in-Done.is in
-    let tests : Accepted (settings) (mask) (llr) (lengths_of (lent)) = accepted (settings) (mask) (llr) (lengths_of (lent)) passed in
+    let passed : call_number settings mask llr lent ≡ 0 = sym c.refusal.ensures ∙ ap number_of c.in-Done.is in
+    let tests : Accepted settings mask llr (lengths_of lent) =
+    accepted settings mask llr (lengths_of lent) passed in
     let work : List ℤ = c.begin.new.work in
-    let fits : OutputsFit (2 ^ (settings).m) (slices (lent).soft (lent).mark (lent).coded_soft (lent).coded_mark work) = fit-with _ (outputs-fit (lent) (tests).slices) in
-    let work-is : work ≡ start_of (settings) (mask) (llr) (lent).work = c.begin.ensures ∙ ap (λ (rule : MinSum). iteration.start (settings).m rule.ceiling (mask) (llr) (lent).work) c.rule_of.ensures in
-    let valid : WorkspaceValid (rule_of (settings)) (settings).m work = begun-valid (settings) (mask) (llr) (lent) (passed) (tests) _ work-is in
-    (fits)
+    let fits : OutputsFit (2 ^ settings.m) (slices lent.soft lent.mark lent.coded_soft lent.coded_mark
+    work) = fit-with _ (outputs-fit lent tests.slices) in
+    fits
 
 pub returns-else-criterion-eq0 : goal.returns-else-criterion-eq0
 returns-else-criterion-eq0 c =
@@ -76,7 +85,9 @@ returns-else-criterion-eq0 c =
     let llr : List ℤ = c.args.llr.now in
     let mask : List ℕ = c.args.mask.now in
     let settings : Settings = c.args.settings in
-    let passed : call_number (settings) (mask) (llr) (lent) ≡ 0 = sym c.refusal.ensures ∙ ap number_of c.in-Done.is in
+    let passed : call_number settings mask llr lent ≡ 0 = sym c.refusal.ensures ∙ ap number_of c.in-Done.is in
     let work : List ℤ = c.begin.new.work in
-    let work-is : work ≡ start_of (settings) (mask) (llr) (lent).work = c.begin.ensures ∙ ap (λ (rule : MinSum). iteration.start (settings).m rule.ceiling (mask) (llr) (lent).work) c.rule_of.ensures in
-    decoded-run (settings) (mask) (llr) (lent) (passed) _ _ _ (work-is) c.run.ensures
+    let work-is : work ≡ start_of settings mask llr lent.work =
+    c.begin.ensures ∙ ap (λ (rule : MinSum). iteration.start settings.m rule.ceiling mask llr lent.work)
+    c.rule_of.ensures in
+    decoded-run settings mask llr lent passed _ _ _ work-is c.run.ensures

@@ -9,7 +9,8 @@ pub step-progress-requires-clause-workspace_valid : goal.step-progress-requires-
 step-progress-requires-clause-workspace_valid c =
     (run-valid c.loop-iterations.invariant.1.goes_on c.requires.workspace_valid)
 
-pub step-progress-requires-clause-operand_le_largest_ceiling : goal.step-progress-requires-clause-operand_le_largest_ceiling
+pub step-progress-requires-clause-operand_le_largest_ceiling :
+    goal.step-progress-requires-clause-operand_le_largest_ceiling
 step-progress-requires-clause-operand_le_largest_ceiling c =
     (c.requires.operand_le_largest_ceiling.0, run-memory c.loop-iterations.invariant.1.goes_on (omega arith))
 

@@ -10,6 +10,10 @@ use Rattle.decoder.proofs.run_to_limit.Goals as goal
 
 pub outputs-requires-clause-workspace_valid : goal.outputs-requires-clause-workspace_valid
 outputs-requires-clause-workspace_valid c =
-    let work-is : c.iterate_times.new.work ≡ iterations (rule_of c.args.settings) c.args.settings.m c.args.settings.limit c.args.work.now = c.iterate_times.ensures ∙ ap (λ (rule : MinSum). iterations rule c.args.settings.m c.args.settings.limit c.args.work.now) c.rule_of.ensures in
-    let valid : WorkspaceValid (rule_of c.args.settings) c.args.settings.m c.iterate_times.new.work = subst (λ (w : List ℤ). WorkspaceValid (rule_of c.args.settings) c.args.settings.m w) (sym work-is) (valid-iterations c.requires.workspace_valid c.args.settings.limit) in
-    (valid)
+    let work-is : c.iterate_times.new.work ≡ iterations (rule_of c.args.settings) c.args.settings.m
+    c.args.settings.limit c.args.work.now = c.iterate_times.ensures ∙ ap
+    (λ (rule : MinSum). iterations rule c.args.settings.m c.args.settings.limit c.args.work.now) c.rule_of.ensures in
+    let valid : WorkspaceValid (rule_of c.args.settings) c.args.settings.m c.iterate_times.new.work =
+    subst (λ (w : List ℤ). WorkspaceValid (rule_of c.args.settings) c.args.settings.m w) (sym work-is)
+    (valid-iterations c.requires.workspace_valid c.args.settings.limit) in
+    valid

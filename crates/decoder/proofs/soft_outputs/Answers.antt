@@ -21,14 +21,20 @@ loop-i-preserved c =
     let width : c.power_of_two-n.result ≡ 2 ^ m = c.power_of_two-n.ensures in
     let inside : c.loop-i.i < 2 ^ m = omega (arith, width) in
     let left-row : 0 ≡ 0 * 2 ^ m = sym (zero-mul (2 ^ m)) in
-    let valid : WorkspaceValid c.rule_of-rule.result m c.args.work.now = subst (λ (rule : MinSum). WorkspaceValid rule m c.args.work.now) (sym c.rule_of-rule.ensures) c.requires.workspace_valid in
-    let left_is : to_z w16 (of_z w16 c.get.result) ≡ row (m) c.args.work.now 0 c.loop-i.i = told c.get.type_inv (c.get.ensures ∙ message-is (valid) _ _ _ (left-row) (omega arith) (inside)) in
-    let right-row : (m + 1) * c.power_of_two-n.result ≡ (m + 1 + 0) * 2 ^ m = ap (λ (n : ℕ). (m + 1) * n) width ∙ ap (λ (k : ℕ). k * 2 ^ m) (sym (add-zero (m + 1))) in
-    let right_is : to_z w16 (of_z w16 c.get-in-loop-i.result) ≡ row (m) c.args.work.now (m + 1 + 0) c.loop-i.i = told c.get-in-loop-i.type_inv (c.get-in-loop-i.ensures ∙ message-is (valid) _ _ _ (right-row) (omega arith) (inside)) in (
+    let valid : WorkspaceValid c.rule_of-rule.result m c.args.work.now =
+    subst (λ (rule : MinSum). WorkspaceValid rule m c.args.work.now) (sym c.rule_of-rule.ensures)
+    c.requires.workspace_valid in
+    let left_is : to_z w16 (of_z w16 c.get.result) ≡ row m c.args.work.now 0 c.loop-i.i =
+    told c.get.type_inv (c.get.ensures ∙ message-is valid _ _ _ left-row (omega arith) inside) in
+    let right-row : (m + 1) * c.power_of_two-n.result ≡ (m + 1 + 0) * 2 ^ m =
+    ap (λ (n : ℕ). (m + 1) * n) width ∙ ap (λ (k : ℕ). k * 2 ^ m) (sym (add-zero (m + 1))) in
+    let right_is : to_z w16 (of_z w16 c.get-in-loop-i.result) ≡ row m c.args.work.now (m + 1 + 0) c.loop-i.i =
+    told c.get-in-loop-i.type_inv (c.get-in-loop-i.ensures ∙ message-is valid _ _ _ right-row (omega arith)
+    inside) in (
       omega arith,
       written_next c.loop-i.invariant.1
           (told c.soft_output.type_inv
           (c.soft_output.ensures
           ∙ ap₂ (soft_of c.rule_of-rule.result (get_or c.args.mask.now c.loop-i.i 0))
-          (left_is) (right_is))) (omega (arith, width)),
+          left_is right_is)) (omega (arith, width)),
     )

@@ -6,7 +6,8 @@ use Rattle.sweeps.proofs.Filled.{Filled}
 use Rattle.sweeps.proofs.neighbours.by_neighbours.Given as goal
 
 abbrev pub invariant-loop-p : goal.invariant-loop-p
-invariant-loop-p l = (l.n ≡ 2 ^ l.m) × MaskTable 1 l.masks × (l.p ≤ l.n) × Multiple 8 l.p × Filled l.rule l.m 0 l.k l.x l.y (λ j. j < l.p) l.initial.work l.work
+invariant-loop-p l = (l.n ≡ 2 ^ l.m) × MaskTable 1 l.masks × (l.p ≤ l.n) × Multiple 8 l.p
+    × Filled l.rule l.m 0 l.k l.x l.y (λ j. j < l.p) l.initial.work l.work
 
 abbrev pub decreases-loop-p : goal.decreases-loop-p
 decreases-loop-p l = l.n - l.p
