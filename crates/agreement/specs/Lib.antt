@@ -2,5 +2,4 @@ pub mod SameDecoding
 pub mod LeastSizes
 pub mod Agreement
 pub mod OtherContentsCalls
-pub mod OtherContents
 pub mod Cases

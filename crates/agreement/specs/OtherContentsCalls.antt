@@ -1,8 +1,13 @@
 -- Request 2026-04, for calls that are lent memory of the same lengths with any contents: what it means that two calls
 -- of a C function leave the same. Definitions only.
 use Rattle.std.specs.Prelude.{ℕ, ◌≡◌}
+use Rattle.settings.specs.Slices.{Slices, lengths_of}
 use Rattle.decoder.specs.SameDecoding.{SameSlices}
 use Rattle.vedrogne.specs.Interface.{Lent}
+
+-- two calls are lent slices of the same lengths
+abbrev pub SameLengths : Slices → Slices → Type 0
+SameLengths lent lent' = lengths_of lent ≡ lengths_of lent'
 
 -- ---- two calls of a C function: what each was lent to write, before and after, by the number that both return
 

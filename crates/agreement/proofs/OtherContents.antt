@@ -11,7 +11,7 @@ use Rattle.calls.specs.LentMemory.{written_over, unless_refused, SameWritten}
 use Rattle.calls.specs.LentMemoryLaws.{same-before-rest, none_written}
 use Rattle.calls.specs.Numbers.{first_refusal}
 use Rattle.settings.specs.declared.Settings.{Settings}
-use Rattle.settings.specs.Slices.{Slices, lengths_of}
+use Rattle.settings.specs.Slices.{Slices}
 use Rattle.decoder.specs.declared.Outcome.{Outcome}
 use Rattle.decoder.specs.Decoder.{Ending, Result, refused, ended, result_of, result_by, ending, call_number}
 use Rattle.decoder.specs.Decoder.{decode_slices, Decoded}
@@ -31,12 +31,12 @@ use Rattle.vedrogne.specs.Interface.{DecodeCall, RadioCall}
 use Rattle.vedrogne.specs.TextCalls.{report_call_number, TextCall}
 use Rattle.agreement.specs.SameDecoding.{under, list_under, TextsDiffer}
 use Rattle.agreement.specs.Agreement.{criteria-agree as agree, report-agrees}
-use Rattle.agreement.specs.OtherContentsCalls.{SameWrittenNumber, SameLent}
+use Rattle.agreement.specs.OtherContentsCalls.{SameLengths, SameWrittenNumber, SameLent}
 
 -- ---- two calls that are lent slices of the same lengths
 
 module _ (s : Settings) (mask : List ℕ) (llr : List ℤ) (lent lent' : Slices)
-    (lengths : lengths_of lent ≡ lengths_of lent') where
+    (lengths : SameLengths lent lent') where
   pub criteria-agree : SameDecoding (under 4 s) (under 2 s) mask llr lent lent'
   criteria-agree =
       let unread = old-contents-unread (under 2 s) mask llr lent lent' lengths in
@@ -124,7 +124,7 @@ module _ (e : Ending) where
     number_same (suc first) number old old' = kept-number first old old'
 
 module _ (m ceiling scale limit : ℕ) (behind mask : List ℕ) (llr : List ℤ) (before before' : Lent)
-    (lengths : lengths_of before.slices ≡ lengths_of before'.slices) where
+    (lengths : SameLengths before.slices before'.slices) where
   abbrev list : ℕ → List ℕ
   list criterion = list_under criterion m ceiling scale limit behind
 
