@@ -1,1 +1,4 @@
+pub mod Endings
+pub mod Agreement
 pub mod OtherContents
+pub mod Cases

@@ -30,7 +30,7 @@ use Rattle.vedrogne.specs.Interface.{result_number, iterations_out, reason_out, 
 use Rattle.vedrogne.specs.Interface.{DecodeCall, RadioCall}
 use Rattle.vedrogne.specs.TextCalls.{report_call_number, TextCall}
 use Rattle.agreement.specs.SameDecoding.{under, list_under, TextsDiffer}
-use Rattle.agreement.specs.Agreement.{criteria-agree as agree, report-agrees}
+use Rattle.agreement.proofs.Agreement.{criteria-agree as agree, report-agrees}
 use Rattle.agreement.specs.OtherContentsCalls.{SameLengths, SameWrittenNumber, SameLent}
 
 -- ---- two calls that are lent slices of the same lengths

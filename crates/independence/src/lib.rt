@@ -2,5 +2,5 @@
 // marks, for any front that is odd in its samples, and so for one antenna and for two. And that a frozen position is
 // right in every run.
 // It sees the definitions that the contracts of coder, fronts and decoder cite, and their laws. It has no function:
-// all of it is in specs/.
+// what the theorem says is in specs/, the theorem itself in proofs/, where an edit of a definition shows that it falls.
 #![tactic(auto)]

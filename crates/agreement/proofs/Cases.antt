@@ -9,7 +9,7 @@ use Rattle.scan.specs.Reading.{found, malformed}
 use Rattle.report_input.specs.Input.{head}
 use Rattle.report_text.specs.Report.{report}
 use Rattle.agreement.specs.SameDecoding.{TextsDiffer}
-use Rattle.agreement.specs.Agreement.{report-agrees}
+use Rattle.agreement.proofs.Agreement.{report-agrees}
 
 -- what both texts say; `reading_under` puts 4 and 2 in the place of its criterion
 abbrev settings : Settings

@@ -56,7 +56,7 @@ use Rattle.vedrogne.specs.Interface.{
 }
 use Rattle.vedrogne.specs.TextCalls.{report_call_number, TextCall}
 use Rattle.agreement.specs.SameDecoding.{under, SameDecoding, list_under, reading_under, TextsDiffer}
-use Rattle.agreement.specs.LeastSizes.{ending-agrees}
+use Rattle.agreement.proofs.Endings.{ending-agrees}
 
 -- under criterion 2 accepted settings have an operand of at most C
 operand-within : (s : Settings) → settings_number (under 2 s) ≡ 0 → (under 2 s).operand ≤ (under 2 s).ceiling
