@@ -178,25 +178,22 @@ module _ (radio : ℕ) (h : radio < radio_count) where
             }
 
   -- and they are tested so
-  in-order : TestedInOrder
-  in-order radio tallies = refl
-
   module _ (tallies : List Tally) (all : length tallies ≡ radio_count) (c : CallFor) where
     own-step : c.radio ≡ radio
         → tally_of radio (tallies_by tallies c)
         ≡ tally_by (tally_number (tally_of radio tallies)) (tally_of radio tallies) (decoded c.call)
-    own-step = own-step-if in-order tallies all c
+    own-step = own-step-if (λ radio tallies. refl) tallies all c
 
     own-answer : c.radio ≡ radio
         → answer_for tallies c ≡ answer_by (tally_number (tally_of radio tallies)) (decoded c.call)
-    own-answer = own-answer-if in-order tallies all c
+    own-answer = own-answer-if (λ radio tallies. refl) tallies all c
 
     other_step : (c.radio ≡ radio → ⊥) → tally_of radio (tallies_by tallies c) ≡ tally_of radio tallies
-    other_step = other_step-if in-order tallies all c
+    other_step = other_step-if (λ radio tallies. refl) tallies all c
 
   own-run : (calls : List CallFor) (tallies : List Tally) → length tallies ≡ radio_count
       → OwnRun radio tallies calls (calls_for radio calls)
-  own-run = own-run-if in-order
+  own-run = own-run-if (λ radio tallies. refl)
 
 -- "After any run of calls from zeros" each radio's five numbers are the counts over the calls made for it: those
 -- refused with 15 are left out, and 16 refuses none of them

@@ -169,11 +169,8 @@ module _ (tallies : List Tally) (c : CallFor) where
         more ∙ sym (ap (λ (n : ℕ). tally_by n (sum_over tallies) answer) below))
 
   -- and they are tested so
-  in-order : TestedInOrder
-  in-order radio tallies = refl
-
   unknown-keeps : ltb c.radio radio_count ≡ false → tallies_by tallies c ≡ tallies
-  unknown-keeps = unknown-keeps-if in-order
+  unknown-keeps = unknown-keeps-if (λ radio tallies. refl)
 
   by_call : {P : Type 0}
       → (ltb c.radio radio_count ≡ false → tallies_by tallies c ≡ tallies → P)
@@ -181,20 +178,20 @@ module _ (tallies : List Tally) (c : CallFor) where
       → tallies_by tallies c ≡ tallies → P)
       → (ltb c.radio radio_count ≡ true → tally_number own ≡ 0
       → tallies_by tallies c ≡ set tallies c.radio (counted own answer) → P) → P
-  by_call {P} = by_call-if in-order {P = P}
+  by_call {P} = by_call-if (λ radio tallies. refl) {P = P}
 
   next-consistent : AllConsistent tallies → AllConsistent (tallies_by tallies c)
-  next-consistent = next-consistent-if in-order
+  next-consistent = next-consistent-if (λ radio tallies. refl)
 
   next-blocks : length tallies ≡ radio_count
       → ((sum_over tallies).blocks ≤ (sum_over (tallies_by tallies c)).blocks) ×
       ((sum_over (tallies_by tallies c)).blocks ≤ (sum_over tallies).blocks + cond (ltb c.radio radio_count) 1 0)
-  next-blocks = next-blocks-if in-order
+  next-blocks = next-blocks-if (λ radio tallies. refl)
 
   next-sum : length tallies ≡ radio_count → AllConsistent tallies → ltb c.radio radio_count ≡ true
       → (sum_over (tallies_by tallies c)).blocks ≤ most_blocks
       → sum_over (tallies_by tallies c) ≡ tally_by (tally_number (sum_over tallies)) (sum_over tallies) answer
-  next-sum = next-sum-if in-order
+  next-sum = next-sum-if (λ radio tallies. refl)
 
 -- ---- a run of calls
 
