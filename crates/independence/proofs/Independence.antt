@@ -12,7 +12,8 @@ use Rattle.independence.specs.OddFronts.{channel-odd, antennas-odd}
 use Rattle.independence.specs.Verdict.{verdict}
 use Rattle.independence.specs.Alike.{RunSlices, SameLengths, front_in, llrs_in, coded_bit_of, sent_bit, Alike}
 use Rattle.independence.specs.Outcome.{verdict-flipped}
-use Rattle.independence.specs.Runs.{Calls, frozen-zero, sent-coded, answer-same, soft-same, coded_soft-same, mark-same, coded_mark-same}
+use Rattle.independence.specs.Runs.{Calls, frozen-zero, sent-coded, answer-same}
+use Rattle.independence.specs.Runs.{soft-same, coded_soft-same, mark-same, coded_mark-same}
 
 -- for every m, mask and message that the coder accepts; every setting, accepted or not; any samples; and any lent
 -- slices, of the same lengths in both runs
