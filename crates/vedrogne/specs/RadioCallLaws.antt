@@ -61,9 +61,6 @@ module _ {radio : ℕ} {tallies tallies' settings mask : List ℕ} {llr : List �
     list-after : tallies' ≡ tallies_out new tallies
     list-after = c.tallies-are ∙ ap (λ (number : ℕ). unless_refused number (tallies_out new tallies) tallies) lists
 
-    first-number : radio_first_number radio tallies settings ≡ radio_call_number radio (tallies_in tallies)
-    first-number = ap (λ (number : ℕ). first_refusal number (radio_call_number radio (tallies_in tallies))) lists
-
     -- the tallies in the list are those that a call for the radio leaves
     pub tallies-after : tallies_in tallies' ≡ tallies_counted radio (tallies_in tallies) answer
     tallies-after =
@@ -82,7 +79,9 @@ module _ {radio : ℕ} {tallies tallies' settings mask : List ℕ} {llr : List �
         (after ≡ lent new (iterations_out result before.iterations) (reason_out result before.reason)) ×
         (tallies' ≡ tallies_out o.radios.tallies tallies)
     radio-call-is-method d same =
-        let first = first-number ∙ ap (radio_call_number radio) (sym same) in
+        let first =
+        ap (λ (number : ℕ). first_refusal number (radio_call_number radio (tallies_in tallies))) lists
+        ∙ ap (radio_call_number radio) (sym same) in
         let results = ap (λ (number : ℕ). answer_by number answer) first ∙ sym d.answer in
         let slices = decode_slices (settings_in settings) mask llr before.slices in (
           c.call.number_is ∙ ap result_number results,
@@ -95,6 +94,21 @@ module _ {radio : ℕ} {tallies tallies' settings mask : List ℕ} {llr : List �
               (ap (λ (ts : List Tally). tallies_counted radio ts answer) (sym same) ∙ sym d.tallies-are),
         )
 
+  -- where neither the list nor the radio is refused
+  own-after : lists_number tallies settings ≡ 0 → radio_call_number radio (tallies_in tallies) ≡ 0
+      → tallies'
+      ≡ take (tally_length * radio) tallies
+      ++ tally_list (counted (tally_of radio (tallies_in tallies)) answer)
+      ++ drop (tally_length * radio + tally_length) tallies
+  own-after lists none =
+      let known =
+      ltb-true radio radio_count (check-passed _ 15 _ (first-refusal-passed (radio_number radio) _ none).0).0 in
+      let own = counted (tally_of radio (tallies_in tallies)) answer in
+      let all = tallies_in tallies in
+      list-after lists
+      ∙ ap (λ (number : ℕ). tallies_out (unless_refused number (set all radio own) all) tallies) none
+      ∙ own-written tallies radio own known (tallies-long tallies settings lists)
+
   -- only the radio's own five numbers change: the decoder's answer is counted in them
   pub own-numbers-written : radio_first_number radio tallies settings ≡ 0
       → tallies'
@@ -104,14 +118,7 @@ module _ {radio : ℕ} {tallies tallies' settings mask : List ℕ} {llr : List �
   own-numbers-written none =
       let passed =
       first-refusal-passed (lists_number tallies settings) (radio_call_number radio (tallies_in tallies)) none in
-      let known =
-      ltb-true radio radio_count
-      (check-passed _ 15 _ (first-refusal-passed (radio_number radio) _ passed.1).0).0 in
-      let own = counted (tally_of radio (tallies_in tallies)) answer in
-      let all = tallies_in tallies in
-      list-after passed.0
-      ∙ ap (λ (number : ℕ). tallies_out (unless_refused number (set all radio own) all) tallies) passed.1
-      ∙ own-written tallies radio own known (tallies-long tallies settings passed.0)
+      own-after passed.0 passed.1
 
   -- request 2026-07: a radio's tally that was counted while T ran to 200 goes on. The number returned is the decoder's,
   -- and its answer is counted in the radio's own five numbers
@@ -123,7 +130,9 @@ module _ {radio : ℕ} {tallies tallies' settings mask : List ℕ} {llr : List �
       ++ tally_list (counted (tally_of radio (tallies_in tallies)) answer)
       ++ drop (tally_length * radio + tally_length) tallies)
   old-numbers-go-on lists known old =
-      let none = first-number lists ∙ old-tally-accepted radio (tallies_in tallies) known old in (
-        c.call.number_is ∙ ap (λ (number : ℕ). result_number (answer_by number answer)) none,
-        own-numbers-written none,
+      let none = old-tally-accepted radio (tallies_in tallies) known old in
+      let first =
+      ap (λ (number : ℕ). first_refusal number (radio_call_number radio (tallies_in tallies))) lists ∙ none in (
+        c.call.number_is ∙ ap (λ (number : ℕ). result_number (answer_by number answer)) first,
+        own-after lists none,
       )
