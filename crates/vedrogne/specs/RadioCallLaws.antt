@@ -61,6 +61,9 @@ module _ {radio : ℕ} {tallies tallies' settings mask : List ℕ} {llr : List �
     list-after : tallies' ≡ tallies_out new tallies
     list-after = c.tallies-are ∙ ap (λ (number : ℕ). unless_refused number (tallies_out new tallies) tallies) lists
 
+    first-number : radio_first_number radio tallies settings ≡ radio_call_number radio (tallies_in tallies)
+    first-number = ap (λ (number : ℕ). first_refusal number (radio_call_number radio (tallies_in tallies))) lists
+
     -- the tallies in the list are those that a call for the radio leaves
     pub tallies-after : tallies_in tallies' ≡ tallies_counted radio (tallies_in tallies) answer
     tallies-after =
