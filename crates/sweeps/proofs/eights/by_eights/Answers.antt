@@ -1,7 +1,9 @@
 -- `eights::by_eights` meets its contract: the upper positions below p are done, and their partners.
 use Prim.Native.Nat.{◌≤◌, ◌+◌, ◌^◌, zero-le}
-use mathlib.Core.Path.{refl, ◌∙◌}
+use mathlib.Core.Path.{◌≡◌, refl, ◌∙◌}
 use native.Mathlib.Omega.{arith}
+use borrow.Author.Rules.{rules}
+use lib.Bits.{bit_and}
 use lib.Pow.{pow_mono}
 use Rattle.polar.specs.DigitLaws.{multiple-none, multiple-next, mask-clear, mask-set}
 use Rattle.sweeps.specs.Private.{Rows}
@@ -27,14 +29,16 @@ loop-p-init c = (
 pub join_eight-requires-clause-readable_run : goal.join_eight-requires-clause-readable_run
 join_eight-requires-clause-readable_run c =
     let h = c.loop-p.invariant in
+    let clear : bit_and c.loop-p.p c.power_of_two-d.result ≡ 0 = search rules in
     (pairs-ready h.0 h.1 3 c.loop-p.p c.requires.le_t h.4 (omega arith) c.requires.rows h.5
-    (mask-clear _ _ _ h.1 c.if-p-d-eq0.true)).1.0
+    (mask-clear _ _ _ h.1 clear)).1.0
 
 pub join_eight-requires-clause-d_in_bounds : goal.join_eight-requires-clause-d_in_bounds
 join_eight-requires-clause-d_in_bounds c =
     let h = c.loop-p.invariant in
+    let clear : bit_and c.loop-p.p c.power_of_two-d.result ≡ 0 = search rules in
     (pairs-ready h.0 h.1 3 c.loop-p.p c.requires.le_t h.4 (omega arith) c.requires.rows h.5
-    (mask-clear _ _ _ h.1 c.if-p-d-eq0.true)).1.1
+    (mask-clear _ _ _ h.1 clear)).1.1
 
 pub loop-p-preserved : goal.loop-p-preserved
 loop-p-preserved c =
