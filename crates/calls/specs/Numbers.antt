@@ -1,6 +1,6 @@
 -- Document 01, "Numbers by who causes them": the number of each refusal, and which of several is returned.
 -- Definitions only.
-use Rattle.std.specs.Prelude.{ℕ, zero, suc, Bool, true, false, ◌&&◌, leb}
+use Rattle.std.specs.Prelude.{ℕ, zero, suc, Bool, true, false, ◌&&◌, leb, Result, Ok, Err}
 use Rattle.calls.specs.declared.Refusal.{Refusal}
 use Rattle.calls.specs.declared.Refusal.TheVariants.{
   BlockLength,
@@ -20,8 +20,6 @@ use Rattle.calls.specs.declared.Refusal.TheVariants.{
   UnusableTally,
   RadioNumber,
 }
-use Rattle.calls.specs.declared.Answer.{Answer}
-use Rattle.calls.specs.declared.Answer.TheVariants.{Done, Refused}
 
 abbrev pub refusal_number : Refusal → ℕ
 refusal_number BlockLength = 1
@@ -42,9 +40,9 @@ refusal_number UnusableTally = 15
 refusal_number RadioNumber = 16
 
 -- the number of an answer; 0, which is no refusal's number, stands for an accepted call
-abbrev pub number_of : Answer → ℕ
-number_of Done = 0
-number_of (Refused r) = refusal_number r
+abbrev pub number_of : Result Unit Refusal → ℕ
+number_of (Ok accepted) = 0
+number_of (Err refusal) = refusal_number refusal
 
 -- a test that refuses with a number where it fails; a chain of them gives the number of the first that fails, and 0
 -- where all pass

@@ -1,5 +1,5 @@
+pub mod Rule
 pub mod Message
-pub mod Private
 pub mod MessageLaws
 pub mod ShiftLaws
 pub mod Cases

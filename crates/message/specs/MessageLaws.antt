@@ -1,5 +1,5 @@
 -- Laws of the message arithmetic, for every rule and every two numbers: sizes, orders, and how a turned sign comes out;
--- and f by the cases of document 01. `RuleInRange` is what the decoder has tested of a rule.
+-- and f by the cases of document 01.
 use Rattle.std.specs.Prelude.{ℕ, zero, suc, ◌-◌, ◌*◌, ◌/◌, ◌≤◌, min, ◌≡◌, refl, Bool, true, false, cond, ◌||◌, ℤ, pos}
 use Rattle.std.specs.Prelude.{negsuc, neg_ℤ, nat_abs, ◌+ℤ◌, ◌*ℤ◌}
 use Rattle.std.proofs.Common.{sym, ap, ap₂, ◌∙◌, le_refl, mul-le-mul, mul-zero, one-mul, arith}
@@ -7,18 +7,11 @@ use Rattle.std.proofs.Math.Nat.{min_comm}
 use Rattle.std.proofs.Math.IntN.{neg_ℤ-neg_ℤ, neg_ℤ-+ℤ, +ℤ_comm, +ℤ_idr}
 use Rattle.calls.specs.Signs.{is_negative, flipped}
 use Rattle.calls.specs.Bits.{xor}
-use Rattle.calls.specs.Bounds.{largest_ceiling, largest_scale}
+use Rattle.calls.specs.Bounds.{largest_scale}
 use Rattle.calls.specs.BitLaws.{xor_comm}
 use Rattle.calls.specs.SignLaws.{size-flipped, flipped-zero, flipped-xor}
 use Rattle.message.specs.Message.{cut, add, f}
 use Rattle.message.specs.declared.MinSum.{MinSum}
-
--- ceiling and scale within their ranges
-pub record RuleInRange (rule : MinSum) : Type 0 where
-  pub some : 1 ≤ rule.ceiling
-  pub ceiling-le : rule.ceiling ≤ largest_ceiling
-  pub scale-some : 1 ≤ rule.scale
-  pub scale-le : rule.scale ≤ largest_scale
 
 -- ---- the sum
 

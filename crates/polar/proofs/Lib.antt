@@ -1,4 +1,6 @@
+pub mod Firsts
 pub mod Loops
+pub mod Parts
 pub mod Passes
 pub mod Sixteens
 pub mod Steps

@@ -1,24 +1,21 @@
 -- One turn of the coder's loops: what the element at i adds to what the first i give.
-use Prim.Native.Nat.{ℕ, zero, suc, ◌+◌, ◌-◌, ◌≤◌, ◌<◌, max}
-use mathlib.Core.Path.{◌≡◌, refl, sym, ap, ap₂, ◌∙◌}
-use mathlib.Core.Bool.{Bool, true, false, ◌&&◌}
-use mathlib.Core.List.{List, [], ◌∷◌, ◌++◌}
-use mathlib.Core.Logic.{⊎_elim}
-use native.Mathlib.Nat.{add-zero, add-suc, eq-or-lt_of_le, le_of_suc-le-suc}
-use native.Mathlib.Numerals.{add-one}
-use native.Mathlib.Omega.{arith}
-use lib.Dec.{leb}
-use lib.ListN.{length, get_or, set, length-append, get_or-append}
-use lib.Seq.{get_or_at}
-use borrow.Author.Tests.{le-leb, lt-leb, leb-true, leb-false}
+use Rattle.std.proofs.Common.{ℕ, zero, suc, ◌+◌, ◌-◌, ◌≤◌, ◌<◌, max, ◌≡◌, refl, sym, ap, ap₂, ◌∙◌, Bool, true, false}
+use Rattle.std.proofs.Common.{◌&&◌, List, [], ◌∷◌, ◌++◌, ⊎_elim, add-zero, add-suc, eq-or-lt_of_le, le_of_suc-le-suc}
+use Rattle.std.proofs.Common.{add-one, arith, leb, length, get_or, fold, set, length-append, le-leb, leb-true}
+use Rattle.std.proofs.Common.{leb-false}
+use Rattle.std.proofs.Math.ListN.{get_or-append}
+use Rattle.std.proofs.Math.Seq.{get_or_at}
+use borrow.Author.Tests.{lt-leb}
+use Rattle.std.proofs.Math.Bool.{and-true, and_assoc}
 use Rattle.calls.specs.Every.{every}
-use Rattle.calls.specs.EveryLaws.{every-next}
+use Rattle.calls.specs.EveryLaws.{every_first}
 use Rattle.calls.specs.LentMemory.{overwrite}
-use Rattle.calls.specs.LentMemoryLaws.{length-overwrite, overwrite-store}
+use Rattle.calls.specs.LentMemoryLaws.{overwrite-store}
 use Rattle.calls.specs.Bits.{byte_of, bit_of}
 use Rattle.polar.specs.Mask.{Kind, information, frozen, kind_of, on_kind, by_kind, is_information, frozen_bit}
 use Rattle.polar.specs.MaskLaws.{kind-information, kind-frozen}
 use Rattle.polar.specs.Code.{information_count, u_bit, information_bytes}
+use Rattle.polar.specs.CodeLaws.{bits_at, MessageAccepted}
 use Rattle.calls.specs.BitLaws.{byte-of-bit}
 
 -- the larger of two is at most b where both are
@@ -30,18 +27,14 @@ max-leb x y b = go (leb x b) (leb y b) refl refl
     go true false p q = lt-leb (max x y) b (omega (arith, leb-false y b q))
     go false t p q = lt-leb (max x y) b (omega (arith, leb-false x b p))
 
--- the largest of the first n bytes: it is at most b where each of them is
-pub record Largest (bytes : List ℕ) (n most : ℕ) : Type 0 where
-  pub is : (b : ℕ) → leb most b ≡ every n (λ i. leb (get_or bytes i 0) b)
+-- so the largest of many is at most b where each of them is
+fold-max : (l : List ℕ) (a b : ℕ)
+    → leb (fold max a l) b ≡ leb a b && every (length l) (λ i. leb (get_or l i 0) b)
+fold-max [] a b = sym (and-true (leb a b))
+fold-max (x ∷ l) a b = fold-max l (max a x) b ∙ rw (max-leb, and_assoc, every_first)
 
-pub largest-none : {bytes : List ℕ} → Largest bytes 0 0
-largest-none = record { is = λ b. le-leb 0 b (omega arith) }
-
-pub largest-next : {bytes : List ℕ} {i most : ℕ} → Largest bytes i most
-    → Largest bytes (i + 1) (max most (get_or bytes i 0))
-largest-next {bytes} {i} {most} h = record {
-  is = λ b. max-leb most (get_or bytes i 0) b ∙ every-next i (λ j. leb (get_or bytes j 0) b) (h.is b) refl;
-}
+pub largest_leb : (l : List ℕ) (b : ℕ) → leb (fold max 0 l) b ≡ every (length l) (λ i. leb (get_or l i 0) b)
+largest_leb l b = fold-max l 0 b ∙ rw (le-leb 0 b (omega arith))
 
 module _ (l : List ℕ) (i : ℕ) where
   pub count-information : is_information (get_or l i 0) ≡ true → information_count l i + 1 ≡ information_count l (i + 1)
@@ -78,29 +71,33 @@ pub record Placed (mask message : List ℕ) (i used : ℕ) (old block : List ℕ
   pub is : block ≡ overwrite i (λ j. byte_of (u_bit mask message j)) old
   pub count : used ≡ information_count mask i
 
-pub placed-none : {mask message old : List ℕ} → Placed mask message 0 0 old old
-placed-none = record { is = refl; count = refl }
-
 module _ {mask message : List ℕ} {i used : ℕ} {old block : List ℕ} (h : Placed mask message i used old block) where
-  pub placed-length : length block ≡ length old
-  placed-length = ap length h.is ∙ simp length-overwrite
-
   store : {v : ℕ} → v ≡ byte_of (u_bit mask message i) → i < length old
       → set block i v ≡ overwrite (i + 1) (λ j. byte_of (u_bit mask message j)) old
   store e l = rw (e, h.is, add-one i) (overwrite-store i (λ j. byte_of (u_bit mask message j)) old l)
 
-  pub placed-information : is_information (get_or mask i 0) ≡ true → get_or message used 0 ≤ 1 → i < length old
-      → Placed mask message (i + 1) (used + 1) old (set block i (get_or message used 0))
-  placed-information z bit l = record {
-    is = store
-        (sym (ap byte_of
-        (kind-information (bit_of (get_or message (information_count mask i) 0)) (λ bit. bit) (get_or mask i 0) z)
-        ∙ rw h.count (byte-of-bit _ (rw h.count at bit))))
-        l;
-    count = rw h.count (count-information mask i z);
-  }
+  -- an information position: the next message bit is there
+  module _ {n : ℕ} (accepted : MessageAccepted message (information_count mask n))
+      (z : true ≡ is_information (get_or mask i 0)) (l : i < n) where
+    pub placed-lt : used < length message
+    placed-lt = omega (arith, h.count, count-lt mask i n (sym z) l, accepted.long)
 
-  pub placed-frozen : is_information (get_or mask i 0) ≡ false → {v : ℕ} → v ≡ byte_of (frozen_bit (get_or mask i 0))
+    pub placed-information : i < length old
+        → Placed mask message (i + 1) (used + 1) old (set block i (get_or message used 0))
+    placed-information q =
+        let used_lt : used < information_count mask n = omega (arith, h.count, count-lt mask i n (sym z) l) in
+        let bit = bits_at (information_count mask n) message accepted.bits used used_lt in
+        record {
+          is = store
+              (sym (ap byte_of
+              (kind-information (bit_of (get_or message (information_count mask i) 0)) (λ bit. bit) (get_or mask i 0)
+              (sym z))
+              ∙ rw h.count (byte-of-bit _ (rw h.count at bit))))
+              q;
+          count = rw h.count (count-information mask i (sym z));
+        }
+
+  pub placed-frozen : false ≡ is_information (get_or mask i 0) → {v : ℕ} → v ≡ byte_of (frozen_bit (get_or mask i 0))
       → i < length old
       → Placed mask message (i + 1) used old (set block i v)
   placed-frozen z e l = record {
@@ -108,8 +105,9 @@ module _ {mask message : List ℕ} {i used : ℕ} {old block : List ℕ} (h : Pl
         store
         (e
         ∙ ap byte_of
-        (sym (kind-frozen (bit_of (get_or message (information_count mask i) 0)) (λ bit. bit) (get_or mask i 0) z))) l;
-    count = h.count ∙ count-frozen mask i z;
+        (sym (kind-frozen (bit_of (get_or message (information_count mask i) 0)) (λ bit. bit) (get_or mask i 0)
+        (sym z)))) l;
+    count = h.count ∙ count-frozen mask i (sym z);
   }
 
 -- ---- the read-out's loop: the information bytes of the first i positions are copied
@@ -148,23 +146,23 @@ pub record Gathered (mask bytes : List ℕ) (n i count : ℕ) (old message : Lis
   pub is : message ≡ overwrite count (λ k. get_or (information_bytes mask bytes n) k 0) old
   pub counted : count ≡ information_count mask i
 
-pub gathered_none : {mask bytes : List ℕ} {n : ℕ} {old : List ℕ} → Gathered mask bytes n 0 0 old old
-gathered_none = record { is = refl; counted = refl }
-
 module _ {mask bytes : List ℕ} {n i count : ℕ} {old message : List ℕ}
     (h : Gathered mask bytes n i count old message) where
-  pub gathered-length : length message ≡ length old
-  gathered-length = ap length h.is ∙ simp length-overwrite
+  -- an information position: there is room for its byte
+  module _ (room : information_count mask n ≤ length old) (z : true ≡ is_information (get_or mask i 0)) (l : i < n)
+    where
+      pub gathered-lt : count < length old
+      gathered-lt = omega (arith, h.counted, count-lt mask i n (sym z) l)
 
-  pub gathered-information : is_information (get_or mask i 0) ≡ true → i < n → count < length old
-      → Gathered mask bytes n (i + 1) (count + 1) old (set message count (get_or bytes i 0))
-  gathered-information z l r = record {
-    is =
-        let at : get_or bytes i 0 ≡ get_or (information_bytes mask bytes n) count 0
-        = rw h.counted (sym (information-at mask bytes n i z l)) in
-        rw (at, h.is, add-one count) (overwrite-store count (λ k. get_or (information_bytes mask bytes n) k 0) old r);
-    counted = rw h.counted (count-information mask i z);
-  }
+      pub gathered-information : Gathered mask bytes n (i + 1) (count + 1) old (set message count (get_or bytes i 0))
+      gathered-information = record {
+        is =
+            let at : get_or bytes i 0 ≡ get_or (information_bytes mask bytes n) count 0
+            = rw h.counted (sym (information-at mask bytes n i (sym z) l)) in
+            rw (at, h.is, add-one count)
+            (overwrite-store count (λ k. get_or (information_bytes mask bytes n) k 0) old gathered-lt);
+        counted = rw h.counted (count-information mask i (sym z));
+      }
 
-  pub gathered-frozen : is_information (get_or mask i 0) ≡ false → Gathered mask bytes n (i + 1) count old message
-  gathered-frozen z = record { is = h.is; counted = h.counted ∙ count-frozen mask i z }
+  pub gathered-frozen : false ≡ is_information (get_or mask i 0) → Gathered mask bytes n (i + 1) count old message
+  gathered-frozen z = record { is = h.is; counted = h.counted ∙ count-frozen mask i (sym z) }

@@ -1,15 +1,8 @@
 -- The last four steps in one pass: they join no position with one outside its sixteen, so each sixteen is coded as a
 -- block of its own.
-use Prim.Native.Nat.{ℕ, zero, suc, ◌+◌, ◌-◌, ◌*◌, ◌/◌, ◌%◌, ◌^◌, ◌≤◌, ◌<◌}
-use mathlib.Core.Path.{◌≡◌, refl, sym, ap, ◌∙◌, fun_ext}
-use mathlib.Core.Bool.{Bool}
-use mathlib.Core.List.{List, [], ◌∷◌, ◌++◌, append-nil}
-use native.Mathlib.Nat.{add-zero, add-suc, le_of_suc-le-suc}
-use native.Mathlib.Omega.{arith}
-use borrow.Author.Rules.{part_to_end}
-use borrow.Rule.Slice.PartMut.{mid_of, put_mid}
-use lib.ListN.{length, get_or, take, drop, length-drop}
-use lib.Seq.{take-length, drop-length, get_or-drop}
+use Rattle.std.proofs.Common.{ℕ, zero, suc, ◌+◌, ◌-◌, ◌*◌, ◌/◌, ◌%◌, ◌^◌, ◌≤◌, ◌<◌, ◌≡◌, sym, ap, ◌∙◌, Bool, List}
+use Rattle.std.proofs.Common.{add-zero, add-suc, arith, length, get_or}
+use Rattle.std.proofs.Math.Path.{fun_ext}
 use Rattle.calls.specs.LentMemory.{overwrite, overwrite_from}
 use Rattle.calls.specs.LentMemoryLaws.{
   length-overwrite,
@@ -23,8 +16,8 @@ use Rattle.polar.specs.Code.{coded}
 use Rattle.polar.specs.Columns.{digit, column_step, column}
 use Rattle.polar.specs.Private.{sixteens_coded}
 use Rattle.polar.specs.BlockLaws.{bits_of, Bits, read_back}
-use Rattle.polar.specs.DigitLaws.{Multiple, multiple-none, multiple-next}
 use Rattle.polar.specs.TransformLaws.{column-coded, coded-same}
+use Rattle.polar.proofs.Parts.{part, with_part, part-at, part-length, part-overwritten}
 use Rattle.polar.proofs.Sixteens.{power-sixteens}
 use Rattle.polar.proofs.Steps.{Columned}
 
@@ -64,71 +57,51 @@ sixteens-coded m i u k l =
     = rw all at (ap (λ (w : ℕ → Bool). w (i % 16)) (sixteen-column m 4 (i / 16) u k (omega arith))) in
     sym (column-coded 4 (i % 16) v (omega arith)) ∙ sym ends ∙ rw whole (column-coded m i u l)
 
--- ---- a part of a list, from element a on, that is overwritten and put back
-
-split-overwritten : (a n : ℕ) (g : ℕ → ℕ) (l : List ℕ) → a ≤ length l
-    → take a l ++ overwrite n g (drop a l) ≡ overwrite_from a n g l
-split-overwritten zero n g l h = refl
-split-overwritten (suc a) n g [] h = absurd (omega arith)
-split-overwritten (suc a) n g (x ∷ l) h =
-    ap (λ (r : List ℕ). x ∷ r) (split-overwritten a n g l (le_of_suc-le-suc h))
-
-part-overwritten : (a n : ℕ) (g : ℕ → ℕ) (l : List ℕ) → a ≤ length l
-    → put_mid a (length l - a) l (overwrite n g (mid_of a (length l - a) l)) ≡ overwrite_from a n g l
-part-overwritten a n g l h =
-    rw (← length-drop a l, take-length (drop a l), drop-length (drop a l), append-nil (overwrite n g (drop a l)))
-    (split-overwritten a n g l h)
-
--- ---- the first p positions, whole sixteens, are coded
+-- ---- the first k sixteens are coded
 
 abbrev recoded : List ℕ → ℕ → ℕ
 recoded old i = byte_of (sixteens_coded (bits_of old) i)
 
-pub record Recoded (p : ℕ) (old block : List ℕ) : Type 0 where
-  pub sixteens : Multiple 16 p
-  pub is : block ≡ overwrite p (recoded old) old
+pub record Recoded (k : ℕ) (old block : List ℕ) : Type 0 where
+  pub is : block ≡ overwrite (16 * k) (recoded old) old
 
-pub recoded-none : {old : List ℕ} → Recoded 0 old old
-recoded-none = record { sixteens = multiple-none 16; is = refl }
-
-module _ {p : ℕ} {old block : List ℕ} (h : Recoded p old block) where
-  pub recoded-length : length block ≡ length old
+module _ {k : ℕ} {old block : List ℕ} (h : Recoded k old block) where
+  recoded-length : length block ≡ length old
   recoded-length = ap length h.is ∙ simp length-overwrite
 
-  -- what stands from p on, to the end
-  abbrev part : List ℕ
-  part = mid_of p (length block - p) block
+  abbrev next : List ℕ
+  next = part (16 * k) block
 
-  part_at : (j : ℕ) → get_or part j 0 ≡ get_or old (p + j) 0
-  part_at j =
-      ap (λ (l : List ℕ). get_or l j 0) (part_to_end block p) ∙ get_or-drop p block j 0
-      ∙ rw h.is (overwrite-behind p (recoded old) old (p + j) 0 (omega arith))
+  next-at : (j : ℕ) → get_or next j 0 ≡ get_or old (16 * k + j) 0
+  next-at j =
+      part-at (16 * k) j block
+      ∙ rw h.is (overwrite-behind (16 * k) (recoded old) old (16 * k + j) 0 (omega arith))
 
-  module _ (m : ℕ) (bits : Bits (2 ^ m) old) (fits : p + 16 ≤ 2 ^ m) where
-    pub part-bits : Bits 16 part
-    part-bits = record {
-      long = rw (part_to_end block p, length-drop) (omega (arith, recoded-length, bits.long));
-      at = λ i l. rw (part_at i) (bits.at (p + i) (omega arith));
+  module _ (m : ℕ) (bits : Bits (2 ^ m) old) (fits : 16 * k + 16 ≤ 2 ^ m) where
+    pub next-bits : Bits 16 next
+    next-bits = record {
+      long = omega (arith, part-length (16 * k) block, recoded-length, bits.long);
+      at = λ i l. rw (next-at i) (bits.at (16 * k + i) (omega arith));
     }
 
-    new : (i : ℕ) → i < 16 → byte_of (coded 4 (bits_of part) i) ≡ recoded old (p + i)
+    new : (i : ℕ) → i < 16 → byte_of (coded 4 (bits_of next) i) ≡ recoded old (16 * k + i)
     new i l =
-        let start : (p + i) / 16 * 16 ≡ p = omega (arith, h.sixteens.is) in
-        let place : (p + i) % 16 ≡ i = omega (arith, h.sixteens.is) in
+        let start : (16 * k + i) / 16 * 16 ≡ 16 * k = omega arith in
+        let place : (16 * k + i) % 16 ≡ i = omega arith in
         rw (start, place)
-        (ap byte_of (coded-same 4 i (bits_of part) (λ j. bits_of old (p + j)) (λ j q. ap bit_of (part_at j))))
+        (ap byte_of (coded-same 4 i (bits_of next) (λ j. bits_of old (16 * k + j)) (λ j q. ap bit_of (next-at j))))
 
-    pub recoded-next : (y : List ℕ) → y ≡ overwrite 16 (λ i. byte_of (coded 4 (bits_of part) i)) part
-        → Recoded (p + 16) old (put_mid p (length block - p) block y)
-    recoded-next y e = record {
-      sixteens = multiple-next h.sixteens;
-      is =
-          let g : ℕ → ℕ = λ i. byte_of (coded 4 (bits_of part) i) in
-          ap (put_mid p (length block - p) block) e
-          ∙ part-overwritten p 16 g block (omega (arith, recoded-length, bits.long))
-          ∙ ap (overwrite_from p 16 g) h.is
-          ∙ overwrite-more p 16 g (recoded old) old new;
-    }
+    pub recoded-next : (y : List ℕ) → y ≡ overwrite 16 (λ i. byte_of (coded 4 (bits_of next) i)) next
+        → Recoded (k + 1) old (with_part (16 * k) block y)
+    recoded-next y e =
+        let g : ℕ → ℕ = λ i. byte_of (coded 4 (bits_of next) i) in
+        let more : 16 * (k + 1) ≡ 16 * k + 16 = omega arith in
+        record {
+          is = ap (with_part (16 * k) block) e
+              ∙ part-overwritten (16 * k) 16 g block (omega (arith, recoded-length, bits.long))
+              ∙ ap (overwrite_from (16 * k) 16 g) h.is
+              ∙ rw more (overwrite-more (16 * k) 16 g (recoded old) old new);
+        }
 
 -- the last four steps behind the others
 pub columned-recoded : (m : ℕ) (old x y : List ℕ) → Bits (2 ^ m) old → 4 ≤ m → Columned m (m - 4) old x

@@ -1,94 +1,41 @@
 -- The turns of the loops over runs and over positions of a step.
-use Prim.Native.Nat.{ℕ, suc, ◌+◌, ◌-◌, ◌^◌, ◌≤◌, ◌<◌}
-use mathlib.Core.Path.{◌≡◌, refl, sym, ap, ap₂, ◌∙◌}
-use mathlib.Core.Bool.{Bool}
-use mathlib.Core.List.{List}
-use native.Mathlib.Numerals.{add-one}
-use native.Mathlib.Omega.{arith}
-use lib.Bits.{bit_and, bit_xor}
-use lib.ListN.{length, get_or, set}
+use Rattle.std.proofs.Common.{ℕ, suc, ◌+◌, ◌-◌, ◌^◌, ◌≤◌, ◌<◌, ◌≡◌, sym, ap, ap₂, ◌∙◌, Bool, List, add-one, arith}
+use Rattle.std.proofs.Common.{bit_and, bit_xor, length, get_or, take, drop, take-append-drop, get_or-take}
+use Rattle.std.proofs.Common.{get_or-drop, ◌++◌, length-take-le}
 use Rattle.calls.specs.LentMemory.{overwrite, overwrite_from}
-use Rattle.calls.specs.LentMemoryLaws.{
-  length-overwrite,
-  length-overwrite_from,
-  overwrite-behind,
-  overwrite-keeps,
-  overwrite-more,
-  overwrite-same,
-  overwrite-twice,
-  overwrite_from-none,
-  overwrite_from-behind,
-  overwrite_from-store,
-  overwrite_from-more,
-}
+use Rattle.calls.specs.LentMemoryLaws.{length-overwrite, overwrite-append, overwrite-behind, overwrite-keeps}
+use Rattle.calls.specs.LentMemoryLaws.{overwrite-more, overwrite-same, overwrite-twice}
 use Rattle.calls.specs.Bits.{byte_of}
 use Rattle.polar.specs.Code.{coded}
 use Rattle.polar.specs.Columns.{digit, column_step, column}
 use Rattle.calls.specs.BitLaws.{byte-of-bit, xor_bytes}
 use Rattle.polar.specs.BlockLaws.{bits_of, Bits, bits-own, bits-written, read_back}
-use Rattle.polar.specs.DigitLaws.{
-  Multiple,
-  multiple-none,
-  multiple-next,
-  mask-clear,
-  run-digit,
-  run_fits,
-  upper_fits,
-  column-step-same,
-}
+use Rattle.polar.specs.DigitLaws.{Multiple, multiple-next, mask-clear, run-digit, run_fits, upper_fits}
+use Rattle.polar.specs.DigitLaws.{column-step-same}
 use Rattle.polar.specs.TransformLaws.{column-coded, coded-same}
+use Rattle.polar.proofs.Parts.{part, with_part, part-at, part-overwritten}
 
--- ---- a run: the first i positions from p on are joined with those d behind them
+-- ---- two runs: each position of the first is joined with the one d behind it
 
-abbrev pair : List ℕ → ℕ → ℕ → ℕ → ℕ
-pair l p d j = bit_xor (get_or l (p + j) 0) (get_or l (p + d + j) 0)
+abbrev pair : List ℕ → ℕ → ℕ → ℕ
+pair l d j = bit_xor (get_or l j 0) (get_or l (d + j) 0)
 
-pub record Joined (p d i : ℕ) (old block : List ℕ) : Type 0 where
-  pub is : block ≡ overwrite_from p i (pair old p d) old
-
-pub joined-none : {p d : ℕ} {old : List ℕ} → Joined p d 0 old old
-joined-none {p} {d} {old} = record { is = sym (overwrite_from-none p (pair old p d) old) }
-
-module _ {p d i : ℕ} {old block : List ℕ} (h : Joined p d i old block) where
-  pub joined_length : length block ≡ length old
-  joined_length = ap length h.is ∙ simp length-overwrite_from
-
-  pub joined-next : p + d + d ≤ length old → i < d → Joined p d (i + 1) old (set block (p + i) (pair block p d i))
-  joined-next long l =
-      let f = pair old p d in
-      let v : pair (overwrite_from p i f old) p d i ≡ f i
-      = ap₂ bit_xor (overwrite_from-behind p i f old (p + i) 0 (omega arith))
-      (overwrite_from-behind p i f old (p + d + i) 0 (omega arith)) in
-      record { is = rw (h.is, v, add-one i) (overwrite_from-store p i f old (omega arith)) }
-
-  -- sixteen more
-  pub joined-sixteen : i + 16 ≤ d → (r y : List ℕ) → ((j : ℕ) → j < 16 → get_or r j 0 ≡ pair block (p + i) d j)
-      → y ≡ overwrite_from (p + i) 16 (λ j. get_or r j 0) block
-      → Joined p d (i + 16) old y
-  joined-sixteen l r y values e =
-      let f = pair old p d in
-      let read : (k : ℕ) → p + i ≤ k → get_or block k 0 ≡ get_or old k 0
-      = λ k q. rw h.is (overwrite_from-behind p i f old k 0 q) in
-      let new : (j : ℕ) → j < 16 → get_or r j 0 ≡ f (i + j)
-      = λ j q.
-      let here : p + i + j ≡ p + (i + j) = omega arith in
-      let across : p + i + d + j ≡ p + d + (i + j) = omega arith in
-      values j q
-      ∙ rw (here, across) (ap₂ bit_xor (read (p + (i + j)) (omega arith)) (read (p + d + (i + j)) (omega arith)))
-      in
-      record { is = e ∙ rw h.is (overwrite_from-more p i 16 (λ j. get_or r j 0) f old new) }
+pub runs-joined : (d : ℕ) (runs upper lower new : List ℕ) → d ≤ length runs → upper ≡ take d runs → lower ≡ drop d runs
+    → new ≡ overwrite d (λ i. bit_xor (get_or upper i 0) (get_or lower i 0)) upper
+    → new ++ lower ≡ overwrite d (pair runs d) runs
+runs-joined d runs upper lower new long front back e =
+    let fits : d ≤ length (take d runs) = omega (arith, length-take-le d runs long) in
+    rw (e, front, back, ← overwrite-append, take-append-drop)
+    (overwrite-same d _ (pair runs d) runs (λ i q r. ap₂ bit_xor (get_or-take d runs i 0 q) (get_or-drop d runs i 0)))
 
 -- ---- a step over the distance 2 ^ t: the first p positions, whole runs, are done
 
-abbrev stepped : ℕ → List ℕ → ℕ → ℕ
+abbrev pub stepped : ℕ → List ℕ → ℕ → ℕ
 stepped t old i = byte_of (column_step t (bits_of old) i)
 
 pub record Stepped (t p : ℕ) (old block : List ℕ) : Type 0 where
   pub runs : Multiple (2 ^ t) p
   pub is : block ≡ overwrite p (stepped t old) old
-
-pub stepped-none : {t : ℕ} {old : List ℕ} → Stepped t 0 old old
-stepped-none {t} = record { runs = multiple-none (2 ^ t); is = refl }
 
 module _ {t p : ℕ} {old block : List ℕ} (h : Stepped t p old block) where
   pub stepped-length : length block ≡ length old
@@ -107,23 +54,29 @@ module _ {t p : ℕ} {old block : List ℕ} (h : Stepped t p old block) where
         rw same
         (omega (arith, stepped-length, bits.long, upper_fits t p h.runs m ht hp (mask-clear p t e same z)))
 
-    joins : digit t p ≡ 0 → (i : ℕ) → i < d → pair (overwrite p (stepped t old) old) p d i ≡ stepped t old (p + i)
+    -- what stands from p on is as it was
+    here : (i : ℕ) → p ≤ i → i < 2 ^ m → get_or block i 0 ≡ byte_of (bits_of old i)
+    here i q l = rw h.is (overwrite-behind p (stepped t old) old i 0 q) ∙ sym (own i l)
+
+    joins : digit t p ≡ 0 → (i : ℕ) → i < d → pair (part p block) d i ≡ stepped t old (p + i)
     joins z i l =
-        let g = stepped t old in
         let in_block = upper_fits t p h.runs m ht hp z in
-        let across : p + d + i ≡ p + i + d = omega arith in
+        let across : p + (d + i) ≡ p + i + d = omega arith in
         let upper : digit t (p + i) ≡ 0 = run-digit t p h.runs i l ∙ z in
-        ap₂ bit_xor
-        (overwrite-behind p g old (p + i) 0 (omega arith) ∙ sym (own (p + i) (omega arith)))
-        (overwrite-behind p g old (p + d + i) 0 (omega arith) ∙ rw across (sym (own (p + i + d) (omega arith))))
+        ap₂ bit_xor (part-at p i block ∙ here (p + i) (omega arith) (omega arith))
+        (part-at p (d + i) block ∙ rw across (here (p + i + d) (omega arith) (omega arith)))
         ∙ xor_bytes (bits_of old (p + i)) (bits_of old (p + i + d))
         ∙ rw upper
 
-    pub stepped-upper : digit t p ≡ 0 → (e y : _) → e ≡ d → y ≡ overwrite_from p e (pair block p e) block
-        → Stepped t (p + e) old y
-    stepped-upper z e y same is = rw same record {
+    pub stepped-upper : digit t p ≡ 0 → (e : ℕ) (new : List ℕ) → e ≡ d
+        → new ≡ overwrite e (pair (part p block) e) (part p block)
+        → Stepped t (p + e) old (with_part p block new)
+    stepped-upper z e new same is = rw same record {
       runs = multiple-next h.runs;
-      is = is ∙ rw (same, h.is) (overwrite-more p d _ (stepped t old) old (joins z));
+      is = ap (with_part p block) is
+          ∙ rw same (part-overwritten p d (pair (part p block) d) block (omega (arith, stepped-length, bits.long)))
+          ∙ ap (overwrite_from p d (pair (part p block) d)) h.is
+          ∙ overwrite-more p d (pair (part p block) d) (stepped t old) old (joins z);
     }
 
     -- a lower run
@@ -148,9 +101,6 @@ pub columned-none : {m : ℕ} {old : List ℕ} → Bits (2 ^ m) old → Columned
 columned-none bits = record { is = sym (bits-own bits) }
 
 module _ {m s : ℕ} {old block : List ℕ} (h : Columned m s old block) where
-  pub columned-length : length block ≡ length old
-  columned-length = ap length h.is ∙ simp length-overwrite
-
   pub columned-bits : Bits (2 ^ m) old → Bits (2 ^ m) block
   columned-bits bits = bits-written (2 ^ m) (column m (bits_of old) s) old block bits.long h.is
 

@@ -3,11 +3,11 @@
 // condition of each refusal.
 #![tactic(auto)]
 
-ghost use Rattle.std.specs.Prelude.{◌≡◌, ℕ, ◌+◌, ◌<◌, ◌≤◌, ◌^◌, max, leb, length, get_or};
+ghost use Rattle.std.specs.Prelude.{◌≡◌, ℕ, ◌+◌, ◌<◌, ◌≤◌, ◌^◌, leb, length, get_or};
 ghost use Rattle.calls.specs.Every.{every};
 ghost use Rattle.calls.specs.Bounds.{largest_m};
 ghost use Rattle.calls.specs.Numbers.{number_of};
-ghost use Rattle.calls.specs.LentMemory.{overwrite, overwrite_from};
+ghost use Rattle.calls.specs.LentMemory.{overwrite};
 ghost use Rattle.calls.specs.Bits.{byte_of};
 ghost use Rattle.polar.specs.Mask.{is_mask_byte, is_information, frozen_bit, mask_accepted};
 ghost use Rattle.polar.specs.Code.{
@@ -24,13 +24,12 @@ ghost use Rattle.polar.specs.Code.{
   read_out_message,
 };
 ghost use Rattle.polar.specs.Columns.{column_step, column};
-ghost use Rattle.polar.specs.DigitLaws.{Multiple};
 ghost use Rattle.polar.specs.Private.{sixteens_coded};
 ghost use Rattle.polar.specs.CodeLaws.{MessageAccepted};
 ghost use Rattle.polar.specs.BlockLaws.{bits_of, Bits};
 ghost use Rattle.std.specs.Int.Bits.{bit_xor};
 
-use calls::{Answer, LARGEST_M, Refusal};
+use calls::{LARGEST_M, Refusal};
 
 // The settings of a code. Coder and read-out take them by value, so that a later setting joins them here.
 #[derive(Clone, Copy)]
@@ -48,32 +47,18 @@ pub fn power_of_two(k: u32) -> usize
     (1u32 << k) as usize
 }
 
-fn larger(a: u8, b: u8) -> u8
-    ensures { result ≡ max a b }
+// The largest of the bytes, 0 of none: it is at most b where each of them is. It needs no branch.
+fn largest(bytes: &[u8]) -> u8
+    ensures { (b : ℕ) → leb result b ≡ every (length bytes.now) (λ i. leb (get_or bytes.now i 0) b) }
 {
-    if a < b { b } else { a }
+    bytes.iter().fold(0, |most, byte| most.max(*byte))
 }
 
-// The largest of the first n bytes, 0 of none: it is at most b where each of them is. It needs no branch.
-fn largest(bytes: &[u8], n: usize) -> u8
-    requires { n ≤ length bytes.now }
-    ensures { (b : ℕ) → leb result b ≡ every n (λ i. leb (get_or bytes.now i 0) b) }
+// Whether the bytes are 0 or 1.
+fn are_bits(bytes: &[u8]) -> bool
+    ensures { result ≡ are_bits (length bytes.now) bytes.now }
 {
-    let mut most = 0;
-    let mut i = 0;
-    while i < n {
-        most = larger(most, bytes[i]);
-        i += 1;
-    }
-    most
-}
-
-// Whether the first n bytes are 0 or 1.
-fn are_bits(bytes: &[u8], n: usize) -> bool
-    requires { n ≤ length bytes.now }
-    ensures { result ≡ are_bits n bytes.now }
-{
-    largest(bytes, n) <= 1
+    largest(bytes) <= 1
 }
 
 // What a byte of the mask means is asked here alone: whether it may stand in a mask, whether it marks an information
@@ -96,178 +81,107 @@ fn frozen_bit(kind: u8) -> u8
     0
 }
 
-// Whether the first n bytes are a mask's. A byte that is at most the largest one may stand in a mask where that one
-// may.
-fn mask_accepted(mask: &[u8], n: usize) -> bool
-    requires { n ≤ length mask.now }
-    ensures { result ≡ mask_accepted n mask.now }
+// Whether the bytes are a mask's. A byte that is at most the largest one may stand in a mask where that one may.
+fn mask_accepted(mask: &[u8]) -> bool
+    ensures { result ≡ mask_accepted (length mask.now) mask.now }
 {
-    is_mask_byte(largest(mask, n))
+    is_mask_byte(largest(mask))
 }
 
-// How many of the first n positions are information positions. The counter has 16 bits, so that eight fill a register.
-fn information_count(mask: &[u8], n: usize) -> usize
-    requires { (n ≤ length mask.now) × (n ≤ 2 ^ largest_m) }
-    ensures { result ≡ information_count mask.now n }
+// How many positions are information positions. The counter has 16 bits, so that eight fill a register.
+fn information_count(mask: &[u8]) -> usize
+    requires { length mask.now ≤ 2 ^ largest_m }
+    ensures { result ≡ information_count mask.now (length mask.now) }
 {
     let mut count = 0u16;
-    let mut i = 0;
-    while i < n {
-        if is_information(mask[i]) {
+    for kind in mask {
+        if is_information(*kind) {
             count += 1;
         }
-        i += 1;
     }
     count as usize
 }
 
 // The tests that the coder and the read-out share: 1; 7, the mask or the slice of N elements beside it; 8; 9.
-pub fn code_refusal(code: Code, mask: &[u8], room: usize) -> Answer
+#[tactic(auto, using(crate::proofs::Firsts::mask_firsts, crate::proofs::Firsts::count_firsts))]
+pub fn code_refusal(code: Code, mask: &[u8], room: usize) -> Result<(), Refusal>
     ensures { number_of result ≡ code_number code mask.now room }
 {
     let m = code.m;
     if m < 1 {
-        return Answer::Refused(Refusal::BlockLength);
+        return Err(Refusal::BlockLength);
     }
     if LARGEST_M < m {
-        return Answer::Refused(Refusal::BlockLength);
+        return Err(Refusal::BlockLength);
     }
     let n = power_of_two(m);
     if mask.len() < n {
-        return Answer::Refused(Refusal::ShortSlice);
+        return Err(Refusal::ShortSlice);
     }
     if room < n {
-        return Answer::Refused(Refusal::ShortSlice);
+        return Err(Refusal::ShortSlice);
     }
-    if !mask_accepted(mask, n) {
-        return Answer::Refused(Refusal::MaskValue);
+    let mask = &mask[..n];
+    if !mask_accepted(mask) {
+        return Err(Refusal::MaskValue);
     }
-    if information_count(mask, n) == 0 {
-        return Answer::Refused(Refusal::NoInformation);
+    if information_count(mask) == 0 {
+        return Err(Refusal::NoInformation);
     }
-    Answer::Done
+    Ok(())
 }
 
 // The tests of a message for K information positions: 7; 13.
-fn message_refusal(message: &[u8], count: usize) -> Answer
+#[tactic(auto, using(crate::proofs::Firsts::bits_firsts))]
+fn message_refusal(message: &[u8], count: usize) -> Result<(), Refusal>
     ensures { number_of result ≡ message_number message.now count }
 {
     if message.len() < count {
-        return Answer::Refused(Refusal::ShortSlice);
+        return Err(Refusal::ShortSlice);
     }
-    if !are_bits(message, count) {
-        return Answer::Refused(Refusal::MessageBit);
+    if !are_bits(&message[..count]) {
+        return Err(Refusal::MessageBit);
     }
-    Answer::Done
+    Ok(())
 }
 
 // Every test of the coder. It writes nothing. Offered to the crates above, which test before they write.
-pub fn encode_refusal(code: Code, mask: &[u8], message: &[u8], room: usize) -> Answer
+pub fn encode_refusal(code: Code, mask: &[u8], message: &[u8], room: usize) -> Result<(), Refusal>
     ensures { number_of result ≡ encode_number code mask.now message.now room }
 {
-    match code_refusal(code, mask, room) {
-        Answer::Refused(refusal) => Answer::Refused(refusal),
-        Answer::Done => {
-            let m = code.m;
-            message_refusal(message, information_count(mask, power_of_two(m)))
-        }
-    }
+    code_refusal(code, mask, room)?;
+    let m = code.m;
+    message_refusal(message, information_count(&mask[..power_of_two(m)]))
 }
 
-// u: the message bits in the information positions of the first n elements, the frozen bits in the others.
-fn place(mask: &[u8], message: &[u8], n: usize, block: &mut [u8])
-    requires n_in_bounds { (n ≤ length mask.now) × (n ≤ length block.old) }
-    requires message_accepted { MessageAccepted message.now (information_count mask.now n) }
+// u: the message bits in the information positions, the frozen bits in the others.
+fn place(mask: &[u8], message: &[u8], block: &mut [u8])
+    requires mask_in_bounds { length mask.now ≤ length block.old }
+    requires message_accepted { MessageAccepted message.now (information_count mask.now (length mask.now)) }
     ensures { block.new
-        ≡ overwrite n (λ i. byte_of (u_bit mask.now message.now i)) block.old }
+        ≡ overwrite (length mask.now) (λ i. byte_of (u_bit mask.now message.now i)) block.old }
 {
     let mut used = 0;
-    let mut i = 0;
-    while i < n {
-        if is_information(mask[i]) {
+    for (i, kind) in mask.iter().enumerate() {
+        if is_information(*kind) {
             block[i] = message[used];
             used += 1;
         } else {
-            block[i] = frozen_bit(mask[i]);
+            block[i] = frozen_bit(*kind);
         }
-        i += 1;
     }
 }
 
-// The run of d positions from p on takes the exclusive-or with the run of d behind it, position by position.
-fn join_short(block: &mut [u8], p: usize, d: usize)
-    requires { p + d + d ≤ length block.old }
-    ensures { block.new
-        ≡ overwrite_from p d
-        (λ i. bit_xor (get_or block.old (p + i) 0) (get_or block.old (p + d + i) 0))
-        block.old }
+// Each of the first d positions takes the exclusive-or with the one d behind it. The two runs are slices of their own,
+// so that the compiler knows them apart and needs no test of overlap.
+fn join(runs: &mut [u8], d: usize)
+    requires { d + d ≤ length runs.old }
+    ensures { runs.new
+        ≡ overwrite d (λ i. bit_xor (get_or runs.old i 0) (get_or runs.old (d + i) 0)) runs.old }
 {
-    let mut i = 0;
-    while i < d {
-        block[p + i] = block[p + i] ^ block[p + d + i];
-        i += 1;
-    }
-}
-
-// The sixteen positions from p on, each joined with the one d behind it.
-fn joined_sixteen(block: &[u8], p: usize, d: usize) -> [u8; 16]
-    requires { p + d + 16 ≤ length block.now }
-    ensures { (i : ℕ) → i < 16 → get_or result i 0
-        ≡ bit_xor (get_or block.now (p + i) 0) (get_or block.now (p + d + i) 0) }
-{
-    let mut joined = [0u8; 16];
-    let mut j = 0;
-    while j < 16 {
-        joined[j] = block[p + j] ^ block[p + d + j];
-        j += 1;
-    }
-    joined
-}
-
-// The sixteen values, from element p on.
-fn put_sixteen(values: &[u8; 16], p: usize, block: &mut [u8])
-    requires { p + 16 ≤ length block.old }
-    ensures { block.new
-        ≡ overwrite_from p 16 (λ i. get_or values.now i 0) block.old }
-{
-    let mut j = 0;
-    while j < 16 {
-        block[p + j] = values[j];
-        j += 1;
-    }
-}
-
-// The same as `join_short`, sixteen at a time: they are computed before the first of them is written, so that the
-// compiler needs no test of overlap.
-fn join_long(block: &mut [u8], p: usize, d: usize)
-    requires d_in_bounds { p + d + d ≤ length block.old }
-    requires multiple { Multiple 16 d }
-    ensures { block.new
-        ≡ overwrite_from p d
-        (λ i. bit_xor (get_or block.old (p + i) 0) (get_or block.old (p + d + i) 0))
-        block.old }
-{
-    let mut i = 0;
-    while i < d {
-        let joined = joined_sixteen(block, p + i, d);
-        put_sixteen(&joined, p + i, block);
-        i += 16;
-    }
-}
-
-// The same of a run of any length 2^t.
-fn join(block: &mut [u8], p: usize, d: usize)
-    requires d_in_bounds { p + d + d ≤ length block.old }
-    requires multiple { 16 ≤ d → Multiple 16 d }
-    ensures { block.new
-        ≡ overwrite_from p d
-        (λ i. bit_xor (get_or block.old (p + i) 0) (get_or block.old (p + d + i) 0))
-        block.old }
-{
-    if d < 16 {
-        join_short(block, p, d);
-    } else {
-        join_long(block, p, d);
+    let (upper, lower) = runs.split_at_mut(d);
+    for (i, bit) in upper.iter_mut().enumerate() {
+        *bit ^= lower[i];
     }
 }
 
@@ -280,12 +194,10 @@ fn butterflies(block: &mut [u8], m: u32, t: u32)
 {
     let n = power_of_two(m);
     let d = power_of_two(t);
-    let mut p = 0;
-    while p < n {
+    for p in (0..n).step_by(d) {
         if p & d == 0 {
-            join(block, p, d);
+            join(&mut block[p..], d);
         }
-        p += d;
     }
 }
 
@@ -296,10 +208,8 @@ fn first_steps(block: &mut [u8], m: u32, count: u32)
     ensures { block.new
         ≡ overwrite (2 ^ m) (λ i. byte_of (column m (bits_of block.old) count i)) block.old }
 {
-    let mut s = 0;
-    while s < count {
+    for s in 0..count {
         butterflies(block, m, m - 1 - s);
-        s += 1;
     }
 }
 
@@ -324,11 +234,8 @@ fn last_steps(block: &mut [u8], m: u32)
     ensures { block.new
         ≡ overwrite (2 ^ m) (λ i. byte_of (sixteens_coded (bits_of block.old) i)) block.old }
 {
-    let n = power_of_two(m);
-    let mut p = 0;
-    while p < n {
-        transform_sixteen(&mut block[p..]);
-        p += 16;
+    for k in 0..power_of_two(m) / 16 {
+        transform_sixteen(&mut block[16 * k..]);
     }
 }
 
@@ -349,72 +256,58 @@ pub fn transform(block: &mut [u8], m: u32)
 }
 
 // The message, coded, in the first 2^m elements of the block.
-pub fn encode(code: Code, mask: &[u8], message: &[u8], block: &mut [u8]) -> Answer
+pub fn encode(code: Code, mask: &[u8], message: &[u8], block: &mut [u8]) -> Result<(), Refusal>
     ensures result_value { number_of result
         ≡ encode_number code mask.now message.now (length block.old) }
     ensures block_after { block.new
         ≡ encode_block code mask.now message.now block.old }
 {
-    match encode_refusal(code, mask, message, block.len()) {
-        Answer::Refused(refusal) => Answer::Refused(refusal),
-        Answer::Done => {
-            let m = code.m;
-            place(mask, message, power_of_two(m), block);
-            transform(block, m);
-            Answer::Done
-        }
-    }
+    encode_refusal(code, mask, message, block.len())?;
+    let m = code.m;
+    place(&mask[..power_of_two(m)], message, block);
+    transform(block, m);
+    Ok(())
 }
 
 // Every test of the read-out. It writes nothing.
-fn read_out_refusal(code: Code, mask: &[u8], bytes: &[u8], room: usize) -> Answer
+fn read_out_refusal(code: Code, mask: &[u8], bytes: &[u8], room: usize) -> Result<(), Refusal>
     ensures { number_of result ≡ read_out_number code mask.now bytes.now room }
 {
-    match code_refusal(code, mask, bytes.len()) {
-        Answer::Refused(refusal) => Answer::Refused(refusal),
-        Answer::Done => {
-            let m = code.m;
-            if room < information_count(mask, power_of_two(m)) {
-                Answer::Refused(Refusal::ShortSlice)
-            } else {
-                Answer::Done
-            }
-        }
+    code_refusal(code, mask, bytes.len())?;
+    let m = code.m;
+    if room < information_count(&mask[..power_of_two(m)]) {
+        Err(Refusal::ShortSlice)
+    } else {
+        Ok(())
     }
 }
 
-// The bytes at the information positions of the first n, one behind the other.
-fn gather(mask: &[u8], bytes: &[u8], n: usize, message: &mut [u8])
-    requires { (n ≤ length mask.now) × (n ≤ length bytes.now)
-        × (information_count mask.now n ≤ length message.old) }
+// The bytes at the information positions, one after the other.
+fn gather(mask: &[u8], bytes: &[u8], message: &mut [u8])
+    requires { (length mask.now ≤ length bytes.now)
+        × (information_count mask.now (length mask.now) ≤ length message.old) }
     ensures { message.new
-        ≡ overwrite (information_count mask.now n)
-        (λ k. get_or (information_bytes mask.now bytes.now n) k 0) message.old }
+        ≡ overwrite (information_count mask.now (length mask.now))
+        (λ k. get_or (information_bytes mask.now bytes.now (length mask.now)) k 0) message.old }
 {
     let mut count = 0;
-    let mut i = 0;
-    while i < n {
-        if is_information(mask[i]) {
+    for (i, kind) in mask.iter().enumerate() {
+        if is_information(*kind) {
             message[count] = bytes[i];
             count += 1;
         }
-        i += 1;
     }
 }
 
 // The bytes at the information positions, in rising order, in the first K elements of the message.
-pub fn read_out(code: Code, mask: &[u8], bytes: &[u8], message: &mut [u8]) -> Answer
+pub fn read_out(code: Code, mask: &[u8], bytes: &[u8], message: &mut [u8]) -> Result<(), Refusal>
     ensures result_value { number_of result
         ≡ read_out_number code mask.now bytes.now (length message.old) }
     ensures message_after { message.new
         ≡ read_out_message code mask.now bytes.now message.old }
 {
-    match read_out_refusal(code, mask, bytes, message.len()) {
-        Answer::Refused(refusal) => Answer::Refused(refusal),
-        Answer::Done => {
-            let m = code.m;
-            gather(mask, bytes, power_of_two(m), message);
-            Answer::Done
-        }
-    }
+    read_out_refusal(code, mask, bytes, message.len())?;
+    let m = code.m;
+    gather(&mask[..power_of_two(m)], bytes, message);
+    Ok(())
 }

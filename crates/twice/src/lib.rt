@@ -8,24 +8,26 @@ ghost use Rattle.calls.specs.Numbers.{number_of, check, first_refusal};
 ghost use Rattle.polar.specs.Code.{encode_number};
 ghost use Rattle.twice.specs.Twice.{twice_number, twice_first, twice_second};
 
-use calls::{Answer, Refusal};
+use calls::Refusal;
 use polar::Code;
 
 // Every test of both calls. It writes nothing.
-fn refusal(code: Code, mask: &[u8], message: &[u8], first: usize, second: usize) -> Answer
+fn refusal(
+    code: Code,
+    mask: &[u8],
+    message: &[u8],
+    first: usize,
+    second: usize,
+) -> Result<(), Refusal>
     ensures { number_of result
         ≡ first_refusal (encode_number code mask.now message.now first)
         (check (leb (2 ^ code.m) second) 7 0) }
 {
-    match polar::encode_refusal(code, mask, message, first) {
-        Answer::Refused(refusal) => Answer::Refused(refusal),
-        Answer::Done => {
-            if second < polar::power_of_two(code.m) {
-                Answer::Refused(Refusal::ShortSlice)
-            } else {
-                Answer::Done
-            }
-        }
+    polar::encode_refusal(code, mask, message, first)?;
+    if second < polar::power_of_two(code.m) {
+        Err(Refusal::ShortSlice)
+    } else {
+        Ok(())
     }
 }
 
@@ -36,7 +38,7 @@ pub fn encode_twice(
     message: &[u8],
     block: &mut [u8],
     again: &mut [u8],
-) -> Answer
+) -> Result<(), Refusal>
     ensures result_value { number_of result
         ≡ twice_number code mask.now message.now block.old again.old }
     ensures block_after { block.new
@@ -44,11 +46,7 @@ pub fn encode_twice(
     ensures again_after { again.new
         ≡ twice_second code mask.now message.now block.old again.old }
 {
-    match refusal(code, mask, message, block.len(), again.len()) {
-        Answer::Refused(refusal) => Answer::Refused(refusal),
-        Answer::Done => {
-            polar::encode(code, mask, message, block);
-            polar::encode(code, mask, block, again)
-        }
-    }
+    refusal(code, mask, message, block.len(), again.len())?;
+    polar::encode(code, mask, message, block)?;
+    polar::encode(code, mask, block, again)
 }

@@ -1,30 +1,23 @@
-use mathlib.Core.Path.{◌≡◌, ◌∙◌}
-use native.Mathlib.Omega.{arith}
-use lib.IntN.{pos, neg_ℤ, ◌+ℤ◌, ◌-ℤ◌}
-use mir.Syntax.{w16}
-use mir.Val.{SFits, to_z, of_z}
-use mir.Facts.{to_z-of_z, to_z_pos}
-use Rattle.message.specs.Message.{add}
-use Rattle.calls.proofs.Signed.{told, minus-held}
-use Rattle.message.proofs.Machine.{sum_fits, cut_twice}
+use Prim.Native.Nat.{ℕ}
+use mathlib.Core.Path.{◌≡◌, ap, ◌∙◌}
+use Rattle.std.proofs.Common.{arith}
+use Rattle.std.proofs.lemmas.Int.{ints, clamps}
+use Rattle.std.specs.Int.{int_max, int_min}
+use lib.IntN.{ℤ, pos, negsuc, neg_ℤ, ◌+ℤ◌}
+use Rattle.calls.proofs.Signed.{told}
+use Rattle.message.specs.Rule.{Rule}
+use Rattle.message.specs.Message.{cut, add}
 use Rattle.message.proofs.add_cut.Goals as goal
+
+cut-is : (C : ℕ) (z : ℤ) → int_max (int_min z (pos C)) (neg_ℤ (pos C)) ≡ cut C z
+cut-is C (pos n) = omega (arith, ints, clamps)
+cut-is C (negsuc n) = omega (arith, ints, clamps)
 
 pub returns : goal.returns
 unfolding add
 returns c =
-    let ceiling-known : to_z w16 c.args.rule.ceiling ≡ pos c.args.rule.ceiling = to_z_pos w16 (omega arith) in
-    let fits : SFits w16 (c.args.a +ℤ c.args.b) = sum_fits c.args.a c.args.b (omega arith) in
-    let minus-known : to_z w16 (of_z w16 (pos 0 -ℤ pos c.args.rule.ceiling)) ≡ neg_ℤ (pos c.args.rule.ceiling) =
-    minus-held (pos c.args.rule.ceiling) (omega arith)
-    in
-    let cut-above =
-    simp (
-      ceiling-known,
-      to_z-of_z c.ranges.a,
-      to_z-of_z c.ranges.b,
-      to_z-of_z fits,
-    ) at c.lower_of.ensures
-    in
-    told c.higher_of.type_inv c.higher_of.ensures
-    ∙ simp (ceiling-known, minus-known, told c.lower_of.type_inv cut-above)
-    (cut_twice c.args.rule.ceiling (c.args.a +ℤ c.args.b))
+    let C = c.args.rule.ceiling in
+    let z = c.args.a +ℤ c.args.b in
+    let same : c.rule.inside.ceiling ≡ C = ap (λ (rule : Rule). rule.ceiling) c.rule.view_is in
+    let both : c.max.result ≡ int_max (int_min z (pos C)) (neg_ℤ (pos C)) = omega (arith, ints, clamps) in
+    told c.max.type_inv (both ∙ cut-is C z)

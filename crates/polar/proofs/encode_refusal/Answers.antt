@@ -1,14 +1,16 @@
 -- `encode_refusal` meets its contract: the code's tests, and where they pass the message's.
-use mathlib.Core.Path.{◌≡◌, sym, ap, ◌∙◌}
-use lib.Pow.{pow_mono}
-use Rattle.calls.specs.Numbers.{number_of}
-use Rattle.polar.specs.Code.{code_number}
-use Rattle.polar.specs.CodeLaws.{CodeAccepted, code-accepted}
+use Rattle.std.proofs.Common.{sym}
+use Rattle.polar.specs.CodeLaws.{code-accepted}
+use Rattle.polar.proofs.Firsts.{accepted-long, accepted-count}
 use Rattle.polar.proofs.encode_refusal.Goals as goal
 
 pub information_count-requires : goal.information_count-requires
 information_count-requires c =
-    let passed : code_number c.args.code c.args.mask.now c.args.room ≡ 0 = sym c.code_refusal.ensures
-    ∙ ap number_of c.in-Done.is in
-    let accepted : CodeAccepted c.args.code c.args.mask.now c.args.room = code-accepted _ _ _ passed in
-    rw c.power_of_two.ensures ((accepted).mask-long, pow_mono (accepted).size)
+    let accepted = code-accepted c.args.code c.args.mask.now c.args.room (sym c.in_ok-code_refusal.ensures) in
+    rw c.power_of_two.ensures (accepted-long accepted)
+
+pub returns : goal.returns
+returns c =
+    let accepted = code-accepted c.args.code c.args.mask.now c.args.room (sym c.in_ok-code_refusal.ensures) in
+    let count = rw (c.power_of_two.ensures, accepted-count accepted) at c.information_count.ensures in
+    rw (← c.in_ok-code_refusal.ensures, ← count) c.message_refusal.ensures

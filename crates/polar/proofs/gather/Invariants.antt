@@ -1,9 +1,6 @@
-use Prim.Native.Nat.{◌≤◌, ◌-◌}
+use Rattle.std.proofs.Common.{length}
 use Rattle.polar.proofs.Loops.{Gathered}
 use Rattle.polar.proofs.gather.Given as goal
 
 abbrev pub invariant-loop-i : goal.invariant-loop-i
-invariant-loop-i l = (l.i ≤ l.n) × Gathered l.mask l.bytes l.n l.i l.count l.initial.message l.message
-
-abbrev pub decreases-loop-i : goal.decreases-loop-i
-decreases-loop-i l = l.n - l.i
+invariant-loop-i l = Gathered l.mask l.bytes (length l.mask) l.i l.count l.initial.message l.message

@@ -1,23 +1,18 @@
--- `last_steps` meets its contract: the first p positions, whole sixteens, are coded.
-use Prim.Native.Nat.{◌≤◌, ◌+◌, ◌^◌}
-use native.Mathlib.Omega.{arith}
-use Rattle.polar.proofs.Sixteens.{sixteen-fits, power-sixteens}
-use Rattle.polar.proofs.Passes.{part-bits, recoded-next}
+-- `last_steps` meets its contract: the first k sixteens are coded.
+use Rattle.std.proofs.Common.{◌≡◌, ◌*◌, ◌^◌, arith}
+use Rattle.polar.proofs.Sixteens.{power-sixteens}
+use Rattle.polar.proofs.Passes.{next-bits, recoded-next}
 use Rattle.polar.proofs.last_steps.Goals as goal
 
 pub transform_sixteen-requires : goal.transform_sixteen-requires
-transform_sixteen-requires c =
-    let fits : c.loop-p.p + 16 ≤ 2 ^ c.args.m =
-    sixteen-fits c.loop-p.invariant.2.sixteens (power-sixteens _ c.requires.m_le_largest_m.1) (omega arith) in
-    part-bits c.loop-p.invariant.2 c.args.m c.requires.bits (fits)
+transform_sixteen-requires c = next-bits c.loop-k.invariant c.args.m c.requires.bits (omega arith)
 
-pub loop-p-preserved : goal.loop-p-preserved
-loop-p-preserved c =
-    let fits : c.loop-p.p + 16 ≤ 2 ^ c.args.m =
-    sixteen-fits c.loop-p.invariant.2.sixteens (power-sixteens _ c.requires.m_le_largest_m.1) (omega arith) in
-    let h = c.loop-p.invariant in (
-      h.0,
-      omega (arith, fits, h.0),
-      recoded-next h.2 c.args.m c.requires.bits (fits) _
-          c.transform_sixteen.ensures,
-    )
+pub loop-k-preserved : goal.loop-k-preserved
+loop-k-preserved c =
+    recoded-next c.loop-k.invariant c.args.m c.requires.bits (omega arith) _ c.transform_sixteen.ensures
+
+pub returns : goal.returns
+returns c =
+    let all : 16 * c.loop-k.k ≡ 2 ^ c.args.m = omega (arith, (power-sixteens c.args.m c.requires.m_le_largest_m.1).is)
+    in
+    rw all at c.loop-k.invariant.is

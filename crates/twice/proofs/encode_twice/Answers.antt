@@ -1,35 +1,22 @@
 -- `encode_twice` meets its contract: by the promises of its tests and of the two calls.
-use Prim.Native.Nat.{ℕ}
-use mathlib.Core.Path.{◌≡◌, sym, ap, ◌∙◌}
-use lib.ListN.{length}
-use Rattle.calls.specs.Numbers.{number_of}
-use Rattle.calls.specs.NumberLaws.{refused-keeps}
-use Rattle.polar.specs.Code.{encode_number, encode_block}
+use mathlib.Core.Path.{◌≡◌, sym, ◌∙◌}
 use Rattle.twice.specs.Twice.{twice_number}
-use Rattle.twice.specs.TwiceLaws.{number-by-lengths, both-accepted}
+use Rattle.twice.specs.TwiceLaws.{number-by-lengths, neither-written}
 use Rattle.twice.proofs.encode_twice.Goals as goal
 
-pub returns-in-Refused-clause-block_after : goal.returns-in-Refused-clause-block_after
-returns-in-Refused-clause-block_after c =
-    let number : ℕ = let a = c.args in twice_number a.code a.mask.now a.message.now a.block.now a.again.now in
-    let tested : number ≡ number_of c.refusal.result = let a = c.args in
-    number-by-lengths a.code a.mask.now a.message.now a.block.now a.again.now ∙ sym c.refusal.ensures in
-    let refused = tested ∙ ap number_of c.in-Refused.is in (rw refused (sym (refused-keeps c.in-Refused.refusal _ _)))
+pub returns-in_err-refusal-clause-block_after : goal.returns-in_err-refusal-clause-block_after
+returns-in_err-refusal-clause-block_after c =
+    (neither-written c.args.code c.args.mask.now c.args.message.now c.args.block.now c.args.again.now _
+    c.in_err-refusal.ensures).0
 
-pub returns-in-Refused-clause-again_after : goal.returns-in-Refused-clause-again_after
-returns-in-Refused-clause-again_after c =
-    let number : ℕ = let a = c.args in twice_number a.code a.mask.now a.message.now a.block.now a.again.now in
-    let tested : number ≡ number_of c.refusal.result = let a = c.args in
-    number-by-lengths a.code a.mask.now a.message.now a.block.now a.again.now ∙ sym c.refusal.ensures in
-    let refused = tested ∙ ap number_of c.in-Refused.is in (rw refused (sym (refused-keeps c.in-Refused.refusal _ _)))
+pub returns-in_err-refusal-clause-again_after : goal.returns-in_err-refusal-clause-again_after
+returns-in_err-refusal-clause-again_after c =
+    (neither-written c.args.code c.args.mask.now c.args.message.now c.args.block.now c.args.again.now _
+    c.in_err-refusal.ensures).1
 
-pub returns-in-Done-clause-block_after : goal.returns-in-Done-clause-block_after
-returns-in-Done-clause-block_after c =
-    let number : ℕ = let a = c.args in twice_number a.code a.mask.now a.message.now a.block.now a.again.now in
-    let tested : number ≡ number_of c.refusal.result = let a = c.args in
-    number-by-lengths a.code a.mask.now a.message.now a.block.now a.again.now ∙ sym c.refusal.ensures in
-    let passed : number ≡ 0 = tested ∙ ap number_of c.in-Done.is in
-    let accepted : let a = c.args in
-    encode_number a.code a.mask.now (encode_block a.code a.mask.now a.message.now a.block.now) (length a.again.now)
-    ≡ 0 = let a = c.args in (both-accepted a.code a.mask.now a.message.now a.block.now a.again.now passed).1 in
-    let done = passed in (rw done c.encode.ensures.block_after)
+pub returns-clause-block_after : goal.returns-clause-block_after
+returns-clause-block_after c =
+    let passed : twice_number c.args.code c.args.mask.now c.args.message.now c.args.block.now c.args.again.now ≡ 0
+    = number-by-lengths c.args.code c.args.mask.now c.args.message.now c.args.block.now c.args.again.now
+    ∙ sym c.in_ok-refusal.ensures in
+    rw passed c.encode.ensures.block_after
