@@ -1,2 +1,2 @@
 pub mod Sums
-pub mod Accepted
+pub mod Pairs

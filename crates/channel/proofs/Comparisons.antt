@@ -1,7 +1,8 @@
--- What the code's comparisons decide: of a float with zero and with the infinities, and of its difference with itself.
+-- What the code's comparisons decide: of a float with zero and with the infinities, and of two differences.
 use Prim.Native.Nat.{ℕ, zero, suc, ◌+◌, ◌-◌, ◌*◌}
 use mathlib.Core.Path.{◌≡◌, refl, sym, ap, ◌∙◌}
 use mathlib.Core.Bool.{Bool, true, false, not, ◌&&◌, cond}
+use Rattle.std.proofs.Math.Bool.{and-true}
 use native.Mathlib.Nat.{le_refl, mul-pos, sub_self, zero-lt-suc}
 use native.Mathlib.Omega.{arith}
 use lib.Dec.{ltb, eqb, eqb-suc-zero}
@@ -39,14 +40,6 @@ less-itself (fin s m e) =
     (rw (sub_self a) (omega arith))
     ∙ zero-rounded
 
-pub finite-is : (x : Float) → is_finite x ≡ eq (sub binary32 x x) (fin false 0 (pos 0))
-unfolding eq
-finite-is x = rw (less-itself x) (by-test (is_finite x))
-  where
-    by-test : (b : Bool) → b ≡ eq (cond b (fin false 0 (pos 0)) nan) (fin false 0 (pos 0))
-    by-test true = refl
-    by-test false = refl
-
 -- the differences of two floats are equal exactly where both floats are finite
 pub both-finite-is : (x y : Float) → is_finite x && is_finite y ≡ eq (sub binary32 x x) (sub binary32 y y)
 unfolding eq
@@ -76,17 +69,12 @@ under true (suc m) e =
     lt-ltb 0 (suc m * up e * 1 + 0 * 1 * down e) (omega (arith, mul-pos (zero-lt-suc m) (up_pos e)))
     ∙ sym (ap not (eqb-suc-zero m))
 
-same_test : (b : Bool) → b ≡ cond b true false
-same_test true = refl
-same_test false = refl
-
-pub above-zero-is : (x : Float) → is_above_zero x ≡ cond (lt (fin false 0 (pos 0)) x) (lt x (inf false)) false
+pub above-zero-is : (x : Float) → is_above_zero x ≡ lt (fin false 0 (pos 0)) x && lt x (inf false)
 unfolding lt is_above_zero
 above-zero-is nan = refl
 above-zero-is (inf true) = refl
 above-zero-is (inf false) = refl
-above-zero-is (fin s m e) =
-    same_test (not s && not (eqb m 0)) ∙ ap (λ (b : Bool). cond b true false) (sym (above s m e))
+above-zero-is (fin s m e) = sym (ap (λ (b : Bool). b && true) (above s m e) ∙ and-true (not s && not (eqb m 0)))
 
 pub by-sign-is : (x : Float) (z : ℤ)
     → by_sign x z ≡ cond (lt x (fin false 0 (pos 0))) (neg_ℤ z) (cond (lt (fin false 0 (pos 0)) x) z (pos 0))

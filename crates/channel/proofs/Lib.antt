@@ -4,4 +4,4 @@ pub mod Cuts
 pub mod Fields
 pub mod Samples
 pub mod Signs
-pub mod Accepted
+pub mod Written

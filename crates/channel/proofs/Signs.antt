@@ -2,14 +2,10 @@
 use Prim.Native.Nat.{ℕ, zero, suc, ◌*◌}
 use mathlib.Core.Path.{◌≡◌, refl, sym, ap, ◌∙◌}
 use mathlib.Core.Bool.{Bool, true, false, cond}
-use mathlib.Core.List.{List}
 use native.Mathlib.Nat.{le_refl}
 use lib.IntN.{ℤ, pos, neg_ℤ}
-use lib.ListN.{get_or}
 use lib.Ieee.{Float, nan, inf, fin, neg}
 use borrow.Author.Tests.{le-leb}
-use Rattle.calls.specs.LentMemory.{overwrite}
-use Rattle.calls.specs.LentMemoryLaws.{overwrite-same}
 use Rattle.channel.specs.Front.{with_sample_sign, nearest, quantised}
 use Rattle.channel.specs.FrontLaws.{rounded-zero, quantised-odd}
 use Rattle.channel.specs.Private.{by_sign}
@@ -19,21 +15,16 @@ either : (C : ℕ) (s : Bool) (size : Float)
 either C true size = quantised-odd C size
 either C false size = refl
 
-sign-last : (C : ℕ) (x size : Float) → quantised C (with_sample_sign x size) ≡ by_sign x (quantised C size)
+of-sign : (C : ℕ) (x size : Float) → by_sign x (quantised C size) ≡ quantised C (with_sample_sign x size)
 unfolding with_sample_sign by_sign quantised
-sign-last C nan size = refl
-sign-last C (inf s) size = either C s size
-sign-last C (fin s zero e) size = ap pos (rounded-zero C)
-sign-last C (fin s (suc m) e) size = either C s size
+of-sign C nan size = refl
+of-sign C (inf s) size = sym (either C s size)
+of-sign C (fin s zero e) size = sym (ap pos (rounded-zero C))
+of-sign C (fin s (suc m) e) size = sym (either C s size)
 
-pub filled-by-sign : (n C : ℕ) (samples : List Float) (old : List ℤ) (size : Float) (z : ℤ) → z ≡ quantised C size
-    → overwrite n (λ i. by_sign (get_or samples i nan) z) old
-    ≡ overwrite n (λ i. quantised C (with_sample_sign (get_or samples i nan) size)) old
-filled-by-sign n C samples old size z e =
-    overwrite-same n (λ i. by_sign (get_or samples i nan) z)
-    (λ i. quantised C (with_sample_sign (get_or samples i nan) size))
-    old
-    (λ i h k. ap (by_sign (get_or samples i nan)) e ∙ sym (sign-last C (get_or samples i nan) size))
+pub sign-last : (C : ℕ) (x size : Float) (z : ℤ) → z ≡ quantised C size
+    → by_sign x z ≡ quantised C (with_sample_sign x size)
+sign-last C x size z e = ap (by_sign x) e ∙ of-sign C x size
 
 pub ceiling-kept : (C : ℕ) → quantised C (fin false C (pos 0)) ≡ pos C
 unfolding quantised

@@ -73,6 +73,12 @@ nearest-is n d h = (
   rw add-one at (lt-mul-div-succ (2 * n + d) {b = 2 * d} (mul-pos (zero-lt-suc 1) h)),
 )
 
+-- a whole number is its own nearest
+pub nearest-whole : (n d : ℕ) → 0 < d → nearest (n * d) d ≡ n
+nearest-whole n d h =
+    div_same (2 * (n * d) + d) (2 * d) (2 * n + 1) 2 (mul-pos (zero-lt-suc 1) h) (zero-lt-suc 1) (omega arith)
+    ∙ omega arith
+
 pub rounded-bound : (C n d : ℕ) → 0 < d → rounded_size C n d ≤ C
 rounded-bound C n d h = by-test (leb (C * d) n) refl
   where

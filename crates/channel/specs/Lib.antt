@@ -1,4 +1,5 @@
 pub mod Front
+pub mod Ranges
 pub mod Private
 pub mod FlippedSamples
 pub mod FrontLaws

@@ -3,16 +3,14 @@
 // float there is, and the number and the exact condition of each refusal.
 #![tactic(auto)]
 
-ghost use Rattle.std.specs.Prelude.{◌≡◌, not, ◌<◌, ◌≤◌, ◌^◌, T, nat_abs, length, get_or};
-ghost use Rattle.std.specs.Float.{binary32, nan};
-ghost use Rattle.std.specs.Float.Ieee.{mul, is_nan};
+ghost use Rattle.std.specs.Prelude.{◌≡◌, ℕ, pos, not, ◌<◌, ◌≤◌, T, nat_abs, length, get_or};
+ghost use Rattle.std.specs.Float.{nan};
+ghost use Rattle.std.specs.Float.Ieee.{is_nan};
 ghost use Rattle.calls.specs.Bounds.{largest_ceiling};
 ghost use Rattle.calls.specs.Numbers.{number_of};
 ghost use Rattle.calls.specs.LentMemory.{overwrite};
 ghost use Rattle.channel.specs.Front.{
   quantised,
-  rounded_size,
-  is_finite,
   is_above_zero,
   is_usable,
   all_finite,
@@ -20,9 +18,13 @@ ghost use Rattle.channel.specs.Front.{
   front_number,
   front_llrs,
 };
+ghost use Rattle.channel.specs.Ranges.{IsBlockLength};
 ghost use Rattle.channel.specs.Private.{is_within, whole_of, by_sign};
 
-use calls::{Answer, LARGEST_CEILING, LARGEST_M, Refusal};
+mod ceiling;
+
+use calls::{LARGEST_M, Refusal};
+pub use ceiling::Ceiling;
 
 // The kind of channel: Gaussian with its factor, flipping with its weight, erasing.
 #[derive(Clone, Copy)]
@@ -32,47 +34,32 @@ pub enum Channel {
     Erasing,
 }
 
-// A finite value less itself is zero, and an infinity less itself a NaN. One comparison, where a test against each
-// infinity takes two.
-fn finite(x: f32) -> bool
-    ensures { result ≡ is_finite x }
-{
-    x - x == 0.0
-}
-
 // Finite and above zero, as a factor or a weight has to be.
 pub fn above_zero(x: f32) -> bool
     ensures { result ≡ is_above_zero x }
 {
-    if 0.0 < x {
-        x < f32::from_bits(0x7f80_0000)
-    } else {
-        false
+    0.0 < x && x < f32::INFINITY
+}
+
+impl Channel {
+    // Whether the factor or the weight is usable; erasing has none.
+    fn is_usable(self) -> bool
+        ensures { result ≡ is_usable self }
+    {
+        match self {
+            Channel::Gaussian(factor) => above_zero(factor),
+            Channel::Flipping(weight) => above_zero(weight),
+            Channel::Erasing => true,
+        }
     }
 }
 
-fn usable(channel: Channel) -> bool
-    ensures { result ≡ is_usable channel }
-{
-    match channel {
-        Channel::Gaussian(factor) => above_zero(factor),
-        Channel::Flipping(weight) => above_zero(weight),
-        Channel::Erasing => true,
-    }
-}
-
-// Whether the first n samples are finite. It looks at all of them, so that the loop has no branch and is vectorised.
+// Whether the first n samples are finite. It looks at all of them, so that the loop has no branch.
 fn all_finite(samples: &[f32], n: usize) -> bool
     requires { n ≤ length samples.now }
     ensures { result ≡ all_finite n samples.now }
 {
-    let mut all = true;
-    let mut i = 0;
-    while i < n {
-        all = calls::both(all, finite(samples[i]));
-        i += 1;
-    }
-    all
+    samples[..n].iter().fold(true, |all, x| all & x.is_finite())
 }
 
 // 1.5 * 2^23: from 2^22 below it to 2^22 above it the floats are the whole numbers, so that a sum with it is rounded to
@@ -86,19 +73,17 @@ fn nearest_whole(value: f32) -> i16
     requires { T (is_within largest_ceiling value) }
     ensures { result ≡ whole_of value }
 {
-    let off_half = f32::from_bits(f32::to_bits(value) | 1);
+    let off_half = f32::from_bits(value.to_bits() | 1);
     ((off_half + ROUNDING) - ROUNDING) as i16
 }
 
-// The exact value, cut to the ceiling on either side by a packed minimum and a packed maximum, and its whole number.
-pub fn quantise(value: f32, ceiling: u32) -> i16
-    requires t { T (not (is_nan value)) }
-    requires le_ceiling { (1 ≤ ceiling) × (ceiling ≤ largest_ceiling) }
-    ensures { result ≡ quantised ceiling value }
+// The exact value, cut to the ceiling on either side, and its whole number.
+pub fn quantise(value: f32, ceiling: Ceiling) -> i16
+    requires { T (not (is_nan value)) }
+    ensures { result ≡ quantised ceiling.value value }
 {
-    let top = ceiling as f32;
-    let most = if value < top { value } else { top };
-    let cut = if -top < most { most } else { -top };
+    let top = ceiling.value as f32;
+    let cut = value.clamp(-top, top);
     nearest_whole(cut)
 }
 
@@ -108,91 +93,79 @@ fn by_sign(sample: f32, size: i16) -> i16
     ensures { result ≡ by_sign sample size }
 {
     if sample < 0.0 {
-        return -size;
+        -size
+    } else if 0.0 < sample {
+        size
+    } else {
+        0
     }
-    if 0.0 < sample {
-        return size;
-    }
-    0
 }
 
-// The Gaussian kind: each LLR is one product, rounded once, and quantised.
-fn fill_products(factor: f32, ceiling: u32, n: usize, samples: &[f32], llr: &mut [i16])
-    requires t { T (is_above_zero factor) }
-    requires le_ceiling { (1 ≤ ceiling) × (ceiling ≤ largest_ceiling) }
-    requires n_in_bounds { (n ≤ length samples.now) × (n ≤ length llr.old) }
-    requires t_2 { T (all_finite n samples.now) }
+// Each LLR by its position. Inlined, so that what the closure captures stays in registers.
+#[inline(always)]
+pub fn fill_each<F: Fn(usize) -> i16>(llr: &mut [i16], llr_at: F)
+    requires { (i : ℕ) → i < length llr.old → F.pre llr_at i }
+    ensures { (i : ℕ) → i < length llr.old → F.post llr_at i (get_or llr.new i (pos 0)) }
+{
+    for (i, place) in llr.iter_mut().enumerate() {
+        *place = llr_at(i);
+    }
+}
+
+// The LLRs of the first samples, by the kind of channel.
+fn fill(channel: Channel, ceiling: Ceiling, samples: &[f32], llr: &mut [i16])
+    requires usable { T (is_usable channel) }
+    requires long_enough { length llr.old ≤ length samples.now }
+    requires finite { T (all_finite (length llr.old) samples.now) }
     ensures { llr.new
-        ≡ overwrite n (λ i. quantised ceiling (mul binary32 (get_or samples.now i nan) factor))
+        ≡ overwrite (length llr.old) (λ i. llr_of ceiling.value channel (get_or samples.now i nan))
         llr.old }
 {
-    let mut i = 0;
-    while i < n {
-        llr[i] = quantise(samples[i] * factor, ceiling);
-        i += 1;
-    }
-}
-
-// The flipping and the erasing kind: each LLR is one size with the sample's sign.
-fn fill_signs(size: i16, n: usize, samples: &[f32], llr: &mut [i16])
-    requires size_bound { nat_abs size ≤ largest_ceiling }
-    requires n_in_bounds { (n ≤ length samples.now) × (n ≤ length llr.old) }
-    ensures { llr.new
-        ≡ overwrite n (λ i. by_sign (get_or samples.now i nan) size) llr.old }
-{
-    let mut i = 0;
-    while i < n {
-        llr[i] = by_sign(samples[i], size);
-        i += 1;
-    }
-}
-
-fn fill(channel: Channel, ceiling: u32, n: usize, samples: &[f32], llr: &mut [i16])
-    requires t { T (is_usable channel) }
-    requires le_ceiling { (1 ≤ ceiling) × (ceiling ≤ largest_ceiling) }
-    requires n_in_bounds { (n ≤ length samples.now) × (n ≤ length llr.old) }
-    requires t_2 { T (all_finite n samples.now) }
-    ensures { llr.new
-        ≡ overwrite n (λ i. llr_of ceiling channel (get_or samples.now i nan)) llr.old }
-{
     match channel {
-        Channel::Gaussian(factor) => fill_products(factor, ceiling, n, samples, llr),
-        Channel::Flipping(weight) => fill_signs(quantise(weight, ceiling), n, samples, llr),
-        Channel::Erasing => fill_signs(ceiling as i16, n, samples, llr),
+        Channel::Gaussian(factor) => fill_each(llr, |i| quantise(samples[i] * factor, ceiling)),
+        Channel::Flipping(weight) => {
+            let size = quantise(weight, ceiling);
+            fill_each(llr, |i| by_sign(samples[i], size))
+        }
+        Channel::Erasing => {
+            let size = ceiling.value as i16;
+            fill_each(llr, |i| by_sign(samples[i], size))
+        }
     }
 }
 
-// Every test that a refusal needs, in the order of the numbers. It writes nothing.
-fn refusal(m: u32, ceiling: u32, channel: Channel, samples: &[f32], room: usize) -> Answer
-    ensures { number_of result ≡ front_number m ceiling channel samples.now room }
+// How many positions a block has.
+pub fn block_length(m: u32) -> Result<usize, Refusal>
+    ensures { IsBlockLength m result }
 {
-    if m < 1 || LARGEST_M < m {
-        return Answer::Refused(Refusal::BlockLength);
+    if !(1..=LARGEST_M).contains(&m) {
+        return Err(Refusal::BlockLength);
     }
-    if ceiling < 1 || LARGEST_CEILING < ceiling {
-        return Answer::Refused(Refusal::Ceiling);
-    }
-    let n: usize = 1 << m;
-    if samples.len() < n || room < n {
-        return Answer::Refused(Refusal::ShortSlice);
-    }
-    if !usable(channel) {
-        return Answer::Refused(Refusal::ChannelFactor);
-    }
-    if !all_finite(samples, n) {
-        return Answer::Refused(Refusal::SampleNotFinite);
-    }
-    Answer::Done
+    Ok(1 << m)
 }
 
 // The first 2^m samples become the first 2^m LLRs.
-pub fn front(m: u32, ceiling: u32, channel: Channel, samples: &[f32], llr: &mut [i16]) -> Answer
+pub fn front(
+    m: u32,
+    ceiling: u32,
+    channel: Channel,
+    samples: &[f32],
+    llr: &mut [i16],
+) -> Result<(), Refusal>
     ensures result_value { number_of result ≡ front_number m ceiling channel samples.now (length llr.old) }
     ensures llr_after { llr.new ≡ front_llrs m ceiling channel samples.now llr.old }
 {
-    let answer = refusal(m, ceiling, channel, samples, llr.len());
-    if let Answer::Done = answer {
-        fill(channel, ceiling, 1 << m, samples, llr);
+    let n = block_length(m)?;
+    let ceiling = Ceiling::try_from(ceiling)?;
+    if samples.len() < n || llr.len() < n {
+        return Err(Refusal::ShortSlice);
     }
-    answer
+    if !channel.is_usable() {
+        return Err(Refusal::ChannelFactor);
+    }
+    if !all_finite(samples, n) {
+        return Err(Refusal::SampleNotFinite);
+    }
+    fill(channel, ceiling, samples, &mut llr[..n]);
+    Ok(())
 }

@@ -4,10 +4,10 @@ use Rattle.antennas.specs.FrontTwoLaws.{product}
 use Rattle.antennas.proofs.Sums.{sum-of-products}
 use Rattle.antennas.proofs.llr_of_two.Goals as goal
 
-pub quantise-requires-clause-t : goal.quantise-requires-clause-t
-quantise-requires-clause-t c =
+pub quantise-requires : goal.quantise-requires
+quantise-requires c =
     let a = c.args in
     let sum_is : add binary32 c.branch-x.result c.branch-y.result
     ≡ add binary32 (product a.x a.receiver.first) (product a.y a.receiver.second) =
     ap₂ (add binary32) c.branch-x.ensures c.branch-y.ensures in
-    rw sum_is (sum-of-products a.receiver a.x a.y c.requires.t c.requires.t_2.0 c.requires.t_2.1)
+    rw sum_is (sum-of-products a.receiver a.x a.y c.requires.usable c.requires.finite.0 c.requires.finite.1)

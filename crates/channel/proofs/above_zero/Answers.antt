@@ -1,11 +1,7 @@
-use mathlib.Core.Path.{sym}
-use lib.Ieee.{nan_bits, of_bits}
+use mathlib.Core.Path.{sym, ◌∙◌}
+use lib.Ieee.{of_bits}
 use Rattle.channel.proofs.Comparisons.{above-zero-is}
 use Rattle.channel.proofs.above_zero.Goals as goal
-
-pub float_from_bits-result : goal.float_from_bits-result
-unfolding nan_bits
-float_from_bits-result c = tt
 
 pub returns-then-x : goal.returns-then-x
 unfolding of_bits
@@ -13,4 +9,4 @@ returns-then-x c = sym (rw c.if-x.true at (above-zero-is c.args.x))
 
 pub returns-else-x : goal.returns-else-x
 unfolding of_bits
-returns-else-x c = sym (rw c.if-x.false at (above-zero-is c.args.x))
+returns-else-x c = c.if-x.false ∙ sym (rw c.if-x.false at (above-zero-is c.args.x))

@@ -1,10 +1,11 @@
-use mathlib.Core.Path.{sym, subst, ◌∙◌}
+use mathlib.Core.Path.{◌∙◌}
 use mathlib.Core.Bool.{not}
 use lib.Dec.{T}
-use lib.Ieee.{Float, nan, inf, fin, binary32, fits, is_nan, of_bits}
+use lib.Ieee.{Float, nan, inf, fin, is_nan, of_bits}
 use lib.Ieee.Casts.{to_signed_in}
 use mir.Syntax.{w16}
 use mir.Facts.{to_z-of_z}
+use borrow.Author.Rules.{rules}
 use Rattle.calls.specs.Bounds.{largest_ceiling}
 use Rattle.channel.specs.Private.{is_within}
 use Rattle.channel.proofs.Fields.{set-number, whole-read}
@@ -21,17 +22,14 @@ float_to_bits-off_half c = within-number c.args.value c.requires
 
 pub float_from_bits-off_half : goal.float_from_bits-off_half
 float_from_bits-off_half c =
-    let held : T (fits binary32 c.args.value) = subst T (sym c.well_formed.0.1) tt in
-    set-number c.args.value held c.requires
+    set-number c.args.value (search rules) c.requires
 
 pub float_to_int-result : goal.float_to_int-result
 unfolding of_bits
 float_to_int-result c =
-    let held : T (fits binary32 c.args.value) = subst T (sym c.well_formed.0.1) tt in
-    (whole-read c.args.value held c.requires).0
+    (whole-read c.args.value (search rules) c.requires).0
 
 pub returns : goal.returns
 unfolding of_bits
 returns c =
-    let held : T (fits binary32 c.args.value) = subst T (sym c.well_formed.0.1) tt in
-    to_z-of_z {w = w16} (record { sfits = to_signed_in 15 _ }) ∙ (whole-read c.args.value held c.requires).1
+    to_z-of_z {w = w16} (record { sfits = to_signed_in 15 _ }) ∙ (whole-read c.args.value (search rules) c.requires).1
