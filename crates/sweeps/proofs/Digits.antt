@@ -1,40 +1,61 @@
--- The digit that says on which side a position is: in runs that are shorter than the distance, one distance further,
--- and behind a whole number of pairs of runs.
+-- Whole numbers of runs, and the digit that says on which side a position is: in runs of which a whole number makes the
+-- distance, one distance further, and behind a whole number of pairs of runs.
 use Prim.Native.Nat.{ℕ, suc, ◌+◌, ◌-◌, ◌*◌, ◌/◌, ◌%◌, ◌^◌, ◌≤◌, ◌<◌}
-use mathlib.Core.Path.{◌≡◌, sym, ap, subst, ◌∙◌}
-use native.Mathlib.Nat.{add-div_right, add-mul-div_right, mul_assoc, suc-mul, mul-le-mul_right, pow-suc}
+use mathlib.Core.Path.{◌≡◌, sym, ap, ◌∙◌}
+use native.Mathlib.Nat.{
+  add-div_right,
+  add-mul-div_right,
+  add-zero,
+  div-div-eq-div-mul,
+  lt_of_mul-lt-mul_right,
+  mul_assoc,
+  mul_comm,
+  suc-mul,
+  mul-le-mul_right,
+  pow-suc,
+}
 use native.Mathlib.Omega.{arith}
-use lib.Pow.{pow_pos, pow-add, shr_lt, shr-shr, shl-shr, high}
+use lib.Pow.{pow_pos, pow-add}
+use Rattle.std.proofs.lemmas.Nat.{div-mul-add}
 use Rattle.polar.specs.Columns.{digit}
 use Rattle.polar.specs.DigitLaws.{Multiple}
 
--- a multiple of a multiple
-pub multiple-of : (a d : ℕ) {n p : ℕ} → n ≡ a * d → Multiple n p → Multiple d p
-multiple-of a d {n} {p} e h =
+-- a multiple of a multiple, and of powers
+pub multiple-trans : {d n p : ℕ} → Multiple d n → Multiple n p → Multiple d p
+multiple-trans {d} {n} {p} g h =
     record {
-      times = h.times * a;
-      is = h.is ∙ ap (λ (x : ℕ). h.times * x) e ∙ sym (mul_assoc h.times a d);
+      times = h.times * g.times;
+      is = h.is ∙ ap (λ (x : ℕ). h.times * x) g.is ∙ sym (mul_assoc h.times g.times d);
     }
 
--- a whole number of runs of 2 ^ s positions lies before the end, and so does the next run
-pub whole_run : (s m p : ℕ) → s ≤ m → Multiple (2 ^ s) p → p < 2 ^ m → p + 2 ^ s ≤ 2 ^ m
-whole_run s m p le h l =
+pub power-multiple : (s m : ℕ) → s ≤ m → Multiple (2 ^ s) (2 ^ m)
+power-multiple s m le =
     let e : m ≡ m - s + s = omega arith in
-    let few : p / 2 ^ s < 2 ^ (m - s) = shr_lt (m - s) s (subst (λ (k : ℕ). p < 2 ^ k) e l) in
-    let number : p / 2 ^ s ≡ h.times = rw h.is (shl-shr h.times s) in
-    let all : 2 ^ m ≡ 2 ^ (m - s) * 2 ^ s = ap (λ (k : ℕ). 2 ^ k) e ∙ pow-add 2 (m - s) s in
-    let room : suc h.times * 2 ^ s ≤ 2 ^ (m - s) * 2 ^ s = mul-le-mul_right (2 ^ s) (omega arith) in
-    omega (arith, suc-mul h.times (2 ^ s), h.is)
+    record { times = 2 ^ (m - s); is = ap (λ (k : ℕ). 2 ^ k) e ∙ pow-add 2 (m - s) s }
 
--- a run of 2 ^ s positions, no longer than the distance
-pub same-digit : (s t p i : ℕ) → s ≤ t → Multiple (2 ^ s) p → i < 2 ^ s → digit t (p + i) ≡ digit t p
-same-digit s t p i le h l =
-    let e : t ≡ s + (t - s) = omega arith in
-    let whole : (p + i) / 2 ^ s ≡ h.times = rw h.is (high h.times s l) in
-    let first : p / 2 ^ s ≡ h.times = rw h.is (shl-shr h.times s) in
-    let there : (p + i) / 2 ^ t ≡ p / 2 ^ t = ap (λ (k : ℕ). (p + i) / 2 ^ k) e ∙ sym (shr-shr (p + i) s (t - s))
-    ∙ ap (λ (x : ℕ). x / 2 ^ (t - s)) (whole ∙ sym first) ∙ shr-shr p s (t - s) ∙ ap (λ (k : ℕ). p / 2 ^ k) (sym e) in
-    ap (λ (x : ℕ). x % 2) there
+-- a whole number of runs lies before the end, and so does the next run
+pub run-fits : {W n p : ℕ} → Multiple W n → Multiple W p → p < n → p + W ≤ n
+run-fits {W} {n} {p} hn hp l =
+    let fewer : hp.times * W < hn.times * W = omega (arith, hp.is, hn.is) in
+    let next : suc hp.times * W ≤ hn.times * W = mul-le-mul_right W (lt_of_mul-lt-mul_right W fewer) in
+    omega (arith, suc-mul hp.times W, hp.is, hn.is)
+
+-- a run of W positions, where a whole number of them makes the distance
+module _ (t p : ℕ) {W : ℕ} (step : Multiple W (2 ^ t)) (whole : Multiple W p) where
+  quotient : (i : ℕ) → i < W → (p + i) / 2 ^ t ≡ whole.times / step.times
+  quotient i l =
+      rw (
+        step.is,
+        whole.is,
+        mul_comm step.times W,
+        ← div-div-eq-div-mul (whole.times * W + i) W step.times,
+        div-mul-add whole.times W i l,
+      )
+
+  pub same-digit : (i : ℕ) → i < W → digit t (p + i) ≡ digit t p
+  same-digit i l =
+      let first : p / 2 ^ t ≡ whole.times / step.times = rw add-zero at (quotient 0 (omega arith)) in
+      ap (λ (x : ℕ). x % 2) (quotient i l ∙ sym first)
 
 -- one distance further
 next-digit : (t p : ℕ) → digit t (p + 2 ^ t) ≡ (p / 2 ^ t + 1) % 2

@@ -5,5 +5,5 @@ pub mod Merged
 pub mod Parts
 pub mod Places
 pub mod Rows
-pub mod Runs
+pub mod Turns
 pub mod Steps

@@ -1,6 +1,6 @@
 -- Eight pairs out of sixteen positions, and back: where their messages are gathered from, and merged in the order of
 -- the positions.
-use Prim.Native.Nat.{ℕ, ◌+◌, ◌-◌, ◌^◌, ◌≤◌, ◌<◌}
+use Prim.Native.Nat.{ℕ, zero, suc, ◌+◌, ◌-◌, ◌^◌, ◌≤◌, ◌<◌}
 use mathlib.Core.Path.{◌≡◌, refl, sym, ap, ◌∙◌}
 use mathlib.Core.Bool.{Bool, true, false, ◌&&◌, true≢false}
 use mathlib.Core.List.{List}
@@ -9,14 +9,13 @@ use lib.Bits.{bit_and, and_le_l}
 use lib.Dec.{eqb, ltb}
 use lib.IntN.{ℤ, nat_abs}
 use lib.ListN.{length}
-use lib.Pow.{pow_pos}
+use lib.Pow.{pow_pos, pow_mono}
 use borrow.Author.Tests.{eq-eqb, ne_eqb, ltb-true, eqb-true}
 use Rattle.calls.specs.Every.{every}
 use Rattle.calls.specs.EveryLaws.{every-at}
 use Rattle.polar.specs.DigitLaws.{digit-cases}
 use Rattle.message.specs.declared.MinSum.{MinSum}
 use Rattle.message.specs.Message.{add, f}
-use Rattle.message.specs.MessageLaws.{RuleInRange}
 use Rattle.sweeps.specs.Private.{
   message_at,
   new_at,
@@ -41,11 +40,14 @@ is_of_pair d i = ltb (pair_of d i) 8 && eqb (upper_of d (pair_of d i) + bit_and 
 abbrev pub OfPairs : ℕ → Type 0
 OfPairs d = every 16 (is_of_pair d) ≡ true
 
-pub of-pairs-2 : OfPairs 2
-of-pairs-2 = refl
+pub distance_le : (t : ℕ) → t ≤ 2 → 2 ^ t ≤ 4
+distance_le t l = pow_mono {i = t} {j = 2} l
 
-pub of-pairs-4 : OfPairs 4
-of-pairs-4 = refl
+pub of-pairs : (t : ℕ) → 1 ≤ t → t ≤ 2 → OfPairs (2 ^ t)
+of-pairs zero l h = absurd (omega arith)
+of-pairs (suc zero) l h = refl
+of-pairs (suc (suc zero)) l h = refl
+of-pairs (suc (suc (suc t))) l h = absurd (omega arith)
 
 both : (a b : Bool) → a && b ≡ true → (a ≡ true) × (b ≡ true)
 both true b e = (refl, e)
@@ -85,7 +87,6 @@ merged-new rule t x y w upper lower of hx hy us ls i l =
 
 -- the messages of eight pairs, gathered from the places x and y and the distance behind them
 pub record GatheredPairs (rule : MinSum) (d x y : ℕ) (w xu xl yu yl : List ℤ) : Type 0 where
-  pub in-range : RuleInRange rule
   pub ready : ReadableRun rule 16 d x y w
   pub x-upper : Gathered x (8 - d) w xu
   pub x-lower : Gathered (x + d) (8 - d) w xl
@@ -127,8 +128,3 @@ module _ {rule : MinSum} {d x y : ℕ} {w xu xl yu yl : List ℤ} (h : GatheredP
 
   pub pair-lower : add rule (f rule (message_at xu i) (message_at yu i)) (message_at xl i) ≡ lower_at rule d x y w p
   pair-lower = rw (h.x-upper i l, h.y-upper i l, xl-is)
-
--- what is gathered lies in the list
-pub gather-room : (rule : MinSum) (d x y : ℕ) (w : List ℤ) → ReadableRun rule 16 d x y w
-    → (x + d + 16 ≤ length w) × (y + d + 16 ≤ length w)
-gather-room rule d x y w ready = let e = (ready 15 (omega arith)).after in (omega (arith, e), omega (arith, e))

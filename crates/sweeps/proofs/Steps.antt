@@ -11,24 +11,6 @@ use Rattle.sweeps.specs.IterationLaws.{left-joined, right-joined}
 use Rattle.sweeps.specs.Private.{row_step, Rows}
 
 module _ (m t : ℕ) (h : t < m) where
-  pub left-rows : Rows m t (m - 1 - t) (m - 1 - t + 1) (m + 1 + (m - 1 - t))
-  left-rows = record {
-    distance = h;
-    written = omega arith;
-    first = (omega arith, omega arith);
-    second = (omega arith, omega arith);
-    apart = (λ e. omega arith, λ e. omega arith);
-  }
-
-  pub right-rows : Rows m (m - 1 - t) (m + 1 + (t + 1)) (m + 1 + t) (t + 1)
-  right-rows = record {
-    distance = omega arith;
-    written = omega arith;
-    first = (omega arith, omega arith);
-    second = (omega arith, omega arith);
-    apart = (λ e. omega arith, λ e. omega arith);
-  }
-
   module _ (rule : MinSum) (old w y : List ℤ) where
     pub left-next : w ≡ left_steps rule m t old
         → y ≡ row_step rule m t (m - 1 - t) (m - 1 - t + 1) (m + 1 + (m - 1 - t)) w

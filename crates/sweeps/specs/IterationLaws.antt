@@ -13,7 +13,8 @@ use Rattle.polar.specs.Mask.{Kind, information, frozen, kind_of, on_kind}
 use Rattle.polar.specs.DigitLaws.{digit-cases}
 use Rattle.message.specs.declared.MinSum.{MinSum}
 use Rattle.message.specs.Message.{add, f}
-use Rattle.message.specs.MessageLaws.{RuleInRange, add-size, add_comm, f-size-second}
+use Rattle.message.specs.Rule.{RuleInRange}
+use Rattle.message.specs.MessageLaws.{add-size, add_comm, f-size-second}
 use Rattle.sweeps.specs.Workspace.{L, R, row, set_row}
 use Rattle.sweeps.specs.WorkspaceLaws.{WorkspaceFits, length-set_row}
 use Rattle.sweeps.specs.Private.{joined_at, row_step}

@@ -1,4 +1,4 @@
-// Eight messages in a local array. All of them are computed before the first is written, so that the compiler needs no
+// Messages in local arrays. All of them are computed before the first is written, so that the compiler needs no
 // test whether what is read and what is written overlap, and keeps the array in a register.
 ghost use Rattle.std.specs.Prelude.{◌≡◌, ◌+◌, ◌<◌, ◌≤◌, length};
 ghost use Rattle.calls.specs.LentMemory.{overwrite_from};
@@ -11,10 +11,8 @@ pub fn mask_table(d: usize) -> [i16; 8]
     ensures { MaskTable d result }
 {
     let mut values = [0i16; 8];
-    let mut i = 0;
-    while i < 8 {
+    for i in 0..8 {
         values[i] = (i & d) as i16;
-        i += 1;
     }
     values
 }
@@ -25,22 +23,19 @@ pub fn gather(work: &[i16], at: usize, mask: usize) -> [i16; 8]
     ensures { Gathered at mask work.now result }
 {
     let mut values = [0i16; 8];
-    let mut i = 0;
-    while i < 8 {
+    for i in 0..8 {
         values[i] = work[at + (i + (i & mask))];
-        i += 1;
     }
     values
 }
 
-// The eight values, from element `at` on.
-pub fn put(values: &[i16; 8], at: usize, work: &mut [i16])
-    requires { at + 8 ≤ length work.old }
-    ensures { work.new ≡ overwrite_from at 8 (message_at values.now) work.old }
+// The values, from element `at` on. (`copy_from_slice` would put the register into memory first, to test whether what
+// it reads and what it writes overlap.)
+pub fn put<const W: usize>(values: &[i16; W], at: usize, work: &mut [i16])
+    requires { at + W ≤ length work.old }
+    ensures { work.new ≡ overwrite_from at W (message_at values.now) work.old }
 {
-    let mut i = 0;
-    while i < 8 {
+    for i in 0..W {
         work[at + i] = values[i];
-        i += 1;
     }
 }

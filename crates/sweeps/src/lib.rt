@@ -3,8 +3,9 @@
 // workspace at entry, the rest of the slice untouched. Its functions are offered to the crate above, which has tested
 // settings, mask and LLRs.
 //
-// A step writes one row from two others. It has five shapes, a file each, all with one promise, `row_step`: `row_step`
-// chooses by the distance and the block length. `messages` has the formulas, and `arrays` what the shapes share.
+// A step writes one row from two others (`step`). It has four shapes, a file each, all with one promise, `row_step`:
+// `row_step` chooses by the distance and the block length. `messages` has the formulas, and `arrays` what the shapes
+// share. Their loops over a row add the width by hand: `step_by` takes up to three instructions more a turn.
 #![tactic(auto)]
 
 ghost use Rattle.std.specs.Prelude.{◌≡◌, ◌+◌, ◌*◌, ◌<◌, ◌≤◌, ◌^◌, pos, length, get_or};
@@ -12,18 +13,19 @@ ghost use Rattle.calls.specs.Bounds.{largest_m, largest_ceiling, workspace_lengt
 ghost use Rattle.calls.specs.LentMemory.{overwrite};
 ghost use Rattle.sweeps.specs.Workspace.{set_l, set_r};
 ghost use Rattle.sweeps.specs.Iteration.{left_steps, right_steps, iteration, prior, start};
-ghost use Rattle.sweeps.specs.Private.{message_at, Rows, row_step};
+ghost use Rattle.sweeps.specs.Private.{message_at, row_step};
 ghost use Rattle.sweeps.specs.IterationLaws.{WorkspaceValid};
 
 mod arrays;
 mod chunks;
-mod eights;
 mod messages;
 mod neighbours;
 mod octets;
-mod pairs;
+mod runs;
+mod step;
 
 use message::MinSum;
+use step::Step;
 
 // The message at position i of the row that starts at `at`.
 pub fn get(work: &[i16], at: usize, i: usize) -> i16
@@ -33,24 +35,26 @@ pub fn get(work: &[i16], at: usize, i: usize) -> i16
     work[at + i]
 }
 
-// One step over the distance 2^t: row k from rows x and y. Eight messages fill a register: runs of eight and more go
-// eight pairs at a time; over shorter distances a register holds both sides of its pairs, and each distance has the
-// shape that reads and writes whole registers; blocks of fewer than eight positions go pair by pair.
-fn row_step(rule: MinSum, m: u32, t: u32, k: usize, x: usize, y: usize, work: &mut [i16])
-    requires workspace_valid { WorkspaceValid rule m work.old }
-    requires rows { Rows m t k x y }
-    ensures { work.new ≡ row_step rule m t k x y work.old }
+// One step. Eight messages fill a register: runs of eight and more go eight pairs at a time; over shorter distances a
+// register holds both sides of its pairs, and each distance has the shape that reads and writes whole registers; blocks
+// of fewer than eight positions go pair by pair.
+fn row_step(rule: MinSum, step: Step, work: &mut [i16])
+    requires { WorkspaceValid rule step.m work.old }
+    ensures { work.new
+        ≡ row_step rule step.m step.t step.k step.x step.y work.old }
 {
-    if m < 3 {
-        pairs::by_pairs(rule, m, t, k, x, y, work);
-    } else if 3 <= t {
-        eights::by_eights(rule, m, t, k, x, y, work);
-    } else if m == 3 {
-        octets::by_octet(rule, t, k, x, y, work);
-    } else if t == 0 {
-        neighbours::by_neighbours(rule, m, k, x, y, work);
+    if step.m < 3 {
+        runs::by_runs::<1>(rule, step, work);
+    } else if 3 <= step.t {
+        runs::by_runs::<8>(rule, step, work);
+    } else if step.m == 3 {
+        octets::by_octet(rule, step, work);
+    } else if step.t == 0 {
+        neighbours::by_neighbours(rule, step, work);
+    } else if step.t == 1 {
+        chunks::by_chunks::<1>(rule, step, work);
     } else {
-        chunks::by_chunks(rule, m, t, k, x, y, work);
+        chunks::by_chunks::<2>(rule, step, work);
     }
 }
 
@@ -60,11 +64,16 @@ fn left_sweep(rule: MinSum, m: u32, work: &mut [i16])
     ensures { work.new ≡ left_steps rule m m work.old }
 {
     let columns = m as usize;
-    let mut t = 0;
-    while t < m {
+    for t in 0..m {
         let s = (m - 1 - t) as usize;
-        row_step(rule, m, t, s, s + 1, columns + 1 + s, work);
-        t += 1;
+        let step = Step {
+            m,
+            t,
+            k: s,
+            x: s + 1,
+            y: columns + 1 + s,
+        };
+        row_step(rule, step, work);
     }
 }
 
@@ -74,19 +83,16 @@ fn right_sweep(rule: MinSum, m: u32, work: &mut [i16])
     ensures { work.new ≡ right_steps rule m m work.old }
 {
     let columns = m as usize;
-    let mut t = 0;
-    while t < m {
+    for t in 0..m {
         let s = t as usize;
-        row_step(
-            rule,
+        let step = Step {
             m,
-            m - 1 - t,
-            columns + 1 + (s + 1),
-            columns + 1 + s,
-            s + 1,
-            work,
-        );
-        t += 1;
+            t: m - 1 - t,
+            k: columns + 1 + (s + 1),
+            x: columns + 1 + s,
+            y: s + 1,
+        };
+        row_step(rule, step, work);
     }
 }
 
@@ -104,11 +110,7 @@ fn clear(work: &mut [i16], n: usize)
     requires { n ≤ length work.old }
     ensures { work.new ≡ overwrite n (λ j. pos 0) work.old }
 {
-    let mut i = 0;
-    while i < n {
-        work[i] = 0;
-        i += 1;
-    }
+    work[..n].fill(0);
 }
 
 // Column 0 of R: the ceiling where frozen, since every frozen bit is 0, and 0 elsewhere.
@@ -120,35 +122,30 @@ fn set_prior(m: u32, ceiling: u16, mask: &[u8], work: &mut [i16])
     let n = polar::power_of_two(m);
     let at = (m as usize + 1) * n;
     let top = ceiling as i16;
-    let mut i = 0;
-    while i < n {
+    for i in 0..n {
         work[at + i] = messages::pick(polar::is_information(mask[i]), 0, top);
-        i += 1;
     }
 }
 
-// Column m of L: the LLRs.
+// Column m of L: the LLRs. (`copy_from_slice` would call memmove, which the library for C does not.)
 fn set_llr(m: u32, llr: &[i16], work: &mut [i16])
     requires { (m ≤ largest_m) × (2 ^ m ≤ length llr.now) × (workspace_length m ≤ length work.old) }
     ensures { work.new ≡ set_l m m (λ i. get_or llr.now i (pos 0)) work.old }
 {
     let n = polar::power_of_two(m);
     let at = m as usize * n;
-    let mut i = 0;
-    while i < n {
+    for i in 0..n {
         work[at + i] = llr[i];
-        i += 1;
     }
 }
 
 // The start.
-pub fn begin(rule: MinSum, m: u32, mask: &[u8], llr: &[i16], work: &mut [i16])
-    requires { (m ≤ largest_m) × (rule.ceiling ≤ largest_ceiling) × (2 ^ m ≤ length mask.now)
+pub fn begin(ceiling: u16, m: u32, mask: &[u8], llr: &[i16], work: &mut [i16])
+    requires { (m ≤ largest_m) × (ceiling ≤ largest_ceiling) × (2 ^ m ≤ length mask.now)
         × (2 ^ m ≤ length llr.now) × (workspace_length m ≤ length work.old) }
     ensures { work.new
-        ≡ start m rule.ceiling mask.now llr.now work.old }
+        ≡ start m ceiling mask.now llr.now work.old }
 {
-    let ceiling = rule.ceiling;
     let n = polar::power_of_two(m);
     clear(work, 2 * (m as usize + 1) * n);
     set_prior(m, ceiling, mask, work);

@@ -1,33 +1,40 @@
 // New messages, one at a time: the two formulas, on values and on places of the workspace.
-ghost use Rattle.std.specs.Prelude.{◌≡◌, cond, ◌+◌, ◌≤◌, eqb, nat_abs};
+ghost use Rattle.std.specs.Prelude.{◌≡◌, cond, ◌+◌, ◌≤◌, ◌+ℤ◌, eqb, nat_abs};
 ghost use Rattle.std.specs.Int.Bits.{bit_and};
 ghost use Rattle.message.specs.Message.{add, f};
-ghost use Rattle.message.specs.MessageLaws.{RuleInRange};
 ghost use Rattle.sweeps.specs.Private.{MessageIn, new_at, partnered_at, upper_at, lower_at, Readable};
 
 use crate::get;
 use message::MinSum;
 
+// A choice of two values that are both at hand: no branch, so that loops over positions fill registers.
 pub fn pick(upper: bool, a: i16, b: i16) -> i16
     ensures { result ≡ cond upper a b }
 {
     if upper { a } else { b }
 }
 
+// The sum of two messages as it is. It fits, since a rule's ceiling is in range.
+fn sum(rule: MinSum, x: i16, y: i16) -> i16
+    requires { (nat_abs x ≤ rule.ceiling) × (nat_abs y ≤ rule.ceiling) }
+    ensures { result ≡ x +ℤ y }
+{
+    let _ = &rule.ceiling;
+    x + y
+}
+
 // The new message of an upper position, from its own message and the two of its partner. Their sum need not be cut: f
 // takes the smaller size, and its own message lies within the ceiling.
 pub fn upper(rule: MinSum, own: i16, x: i16, y: i16) -> i16
-    requires rule_in_range { RuleInRange rule }
-    requires own_bound { (nat_abs own ≤ rule.ceiling) × (nat_abs x ≤ rule.ceiling) × (nat_abs y ≤ rule.ceiling) }
+    requires { (nat_abs own ≤ rule.ceiling) × (nat_abs x ≤ rule.ceiling) × (nat_abs y ≤ rule.ceiling) }
     ensures { result ≡ f rule own (add rule x y) }
 {
-    message::min_sum(rule, own, x + y)
+    message::min_sum(rule, own, sum(rule, x, y))
 }
 
 // The same of a lower position.
 pub fn lower(rule: MinSum, own: i16, x: i16, y: i16) -> i16
-    requires rule_in_range { RuleInRange rule }
-    requires own_bound { (nat_abs own ≤ rule.ceiling) × (nat_abs x ≤ rule.ceiling) × (nat_abs y ≤ rule.ceiling) }
+    requires { (nat_abs own ≤ rule.ceiling) × (nat_abs x ≤ rule.ceiling) × (nat_abs y ≤ rule.ceiling) }
     ensures { result ≡ add rule (f rule x y) own }
 {
     message::add_cut(rule, message::min_sum(rule, x, y), own)
@@ -35,7 +42,6 @@ pub fn lower(rule: MinSum, own: i16, x: i16, y: i16) -> i16
 
 // The new message of an upper position p, from the rows that start at x and y.
 pub fn upper_message(rule: MinSum, work: &[i16], p: usize, d: usize, x: usize, y: usize) -> i16
-    requires rule_in_range { RuleInRange rule }
     requires readable { Readable rule.ceiling p d x y work.now }
     ensures { result ≡ upper_at rule d x y work.now p }
 {
@@ -49,7 +55,6 @@ pub fn upper_message(rule: MinSum, work: &[i16], p: usize, d: usize, x: usize, y
 
 // The new message of its partner, the lower position p + d.
 pub fn lower_message(rule: MinSum, work: &[i16], p: usize, d: usize, x: usize, y: usize) -> i16
-    requires rule_in_range { RuleInRange rule }
     requires readable { Readable rule.ceiling p d x y work.now }
     ensures { result ≡ lower_at rule d x y work.now p }
 {
@@ -59,8 +64,7 @@ pub fn lower_message(rule: MinSum, work: &[i16], p: usize, d: usize, x: usize, y
 // The new message of a position, upper or lower, without a branch: of both its formulas, f is taken once, of the values
 // that belong to it. The sum need not be cut.
 fn combine(rule: MinSum, upper: bool, own: i16, sum: i16, x: i16, y: i16) -> i16
-    requires rule_in_range { RuleInRange rule }
-    requires own_bound { (nat_abs own ≤ rule.ceiling) × (nat_abs sum ≤ rule.ceiling + rule.ceiling)
+    requires { (nat_abs own ≤ rule.ceiling) × (nat_abs sum ≤ rule.ceiling + rule.ceiling)
         × (nat_abs x ≤ rule.ceiling) × (nat_abs y ≤ rule.ceiling) }
     ensures { result ≡ cond upper (f rule own sum) (add rule (f rule x y) own) }
 {
@@ -79,12 +83,11 @@ pub fn new_message(
     x: usize,
     y: usize,
 ) -> i16
-    requires rule_in_range { RuleInRange rule }
     requires upper_value { upper ≡ eqb (bit_and p d) 0 }
     requires readable { Readable rule.ceiling p d x y work.now }
     ensures { result ≡ new_at rule d x y work.now p }
 {
-    let sum = get(work, x, p + d) + get(work, y, p + d);
+    let sum = sum(rule, get(work, x, p + d), get(work, y, p + d));
     combine(
         rule,
         upper,
@@ -105,8 +108,7 @@ pub fn partnered(
     x: usize,
     y: usize,
 ) -> i16
-    requires rule_in_range { RuleInRange rule }
-    requires message_in { MessageIn rule.ceiling (x + p) work.now × MessageIn rule.ceiling (x + q) work.now
+    requires { MessageIn rule.ceiling (x + p) work.now × MessageIn rule.ceiling (x + q) work.now
         × MessageIn rule.ceiling (y + q) work.now }
     ensures { result ≡ partnered_at rule upper x y work.now p q }
 {

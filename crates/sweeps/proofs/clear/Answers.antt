@@ -1,13 +1,13 @@
 -- `clear` meets its contract.
-use native.Mathlib.Numerals.{add-one}
+use mathlib.Core.Path.{◌∙◌}
 use native.Mathlib.Omega.{arith}
+use borrow.Author.Rules.{rules}
+use Rattle.std.proofs.lemmas.List.{get_or-replicate}
 use lib.IntN.{pos}
-use Rattle.calls.specs.LentMemoryLaws.{overwrite-store}
+use Rattle.sweeps.proofs.Parts.{copied, overwrite_from-same}
 use Rattle.sweeps.proofs.clear.Goals as goal
 
-pub loop-i-preserved : goal.loop-i-preserved
-loop-i-preserved c = (
-  omega arith,
-  rw (c.loop-i.invariant.1, add-one)
-      (overwrite-store c.loop-i.i (λ j. pos 0) c.args.work.now (omega arith)),
-)
+pub returns : goal.returns
+returns c =
+    copied 0 c.args.n c.args.n c.fill.new.self c.args.work.now (pos 0) (omega arith) (search rules) (omega arith)
+    ∙ overwrite_from-same 0 c.args.n _ _ c.args.work.now (search (rules, get_or-replicate, c.fill.ensures.after))

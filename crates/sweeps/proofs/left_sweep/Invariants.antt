@@ -1,10 +1,6 @@
-use Prim.Native.Nat.{◌≤◌, ◌-◌}
 use mathlib.Core.Path.{◌≡◌}
 use Rattle.sweeps.specs.Iteration.{left_steps}
 use Rattle.sweeps.proofs.left_sweep.Given as goal
 
 abbrev pub invariant-loop-t : goal.invariant-loop-t
-invariant-loop-t l = (l.t ≤ l.m) × (l.work ≡ left_steps l.rule l.m l.t l.initial.work)
-
-abbrev pub decreases-loop-t : goal.decreases-loop-t
-decreases-loop-t l = l.m - l.t
+invariant-loop-t l = (l.work ≡ left_steps l.rule l.m l.t l.initial.work)

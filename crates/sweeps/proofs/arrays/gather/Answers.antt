@@ -5,4 +5,4 @@ use Rattle.sweeps.proofs.Parts.{array-next}
 use Rattle.sweeps.proofs.arrays.gather.Goals as goal
 
 pub loop-i-preserved : goal.loop-i-preserved
-loop-i-preserved c = (omega arith, array-next c.loop-i.invariant.1 (omega arith) (search rules))
+loop-i-preserved c = array-next c.loop-i.invariant (omega arith) (search rules)

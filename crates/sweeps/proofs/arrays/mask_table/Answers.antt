@@ -7,8 +7,5 @@ use Rattle.sweeps.proofs.Parts.{array-next}
 use Rattle.sweeps.proofs.arrays.mask_table.Goals as goal
 
 pub loop-i-preserved : goal.loop-i-preserved
-loop-i-preserved c = (
-  omega arith,
-  array-next c.loop-i.invariant.1 (omega arith)
-      (to_z_pos w16 (omega (arith, and_le_l c.loop-i.i c.args.d))),
-)
+loop-i-preserved c =
+    array-next c.loop-i.invariant (omega arith) (to_z_pos w16 (omega (arith, and_le_l c.loop-i.i c.args.d)))

@@ -1,11 +1,7 @@
-use Prim.Native.Nat.{◌≤◌, ◌-◌}
 use lib.Bits.{bit_and}
 use lib.IntN.{pos}
 use Rattle.sweeps.proofs.Parts.{ArrayPart}
 use Rattle.sweeps.proofs.arrays.mask_table.Given as goal
 
 abbrev pub invariant-loop-i : goal.invariant-loop-i
-invariant-loop-i l = (l.i ≤ 8) × ArrayPart l.i (λ j. pos (bit_and j l.d)) l.values
-
-abbrev pub decreases-loop-i : goal.decreases-loop-i
-decreases-loop-i l = 8 - l.i
+invariant-loop-i l = ArrayPart 8 l.i (λ j. pos (bit_and j l.d)) l.values

@@ -1,5 +1,4 @@
--- `arrays::put` meets its contract: the first i of the eight are written.
-use Prim.Native.Nat.{zero-le}
+-- `arrays::put` meets its contract: the first i of the values are written.
 use mathlib.Core.Path.{◌≡◌}
 use native.Mathlib.Omega.{arith}
 use borrow.Author.Rules.{rules}
@@ -10,11 +9,11 @@ use Rattle.sweeps.proofs.Parts.{run_none, run-next}
 use Rattle.sweeps.proofs.arrays.put.Goals as goal
 
 pub loop-i-init : goal.loop-i-init
-loop-i-init c = (zero-le, run_none)
+loop-i-init g c = run_none
 
 pub loop-i-preserved : goal.loop-i-preserved
-loop-i-preserved c =
+loop-i-preserved g c =
     let values = c.args.values.now in
     let i = c.loop-i.i in
     let element : to_z w16 (of_z w16 (message_at values i)) ≡ message_at values i = search rules in
-    (omega arith, run-next c.loop-i.invariant.1 (omega (arith, c.requires)) element)
+    run-next c.loop-i.invariant (omega (arith, c.requires)) element

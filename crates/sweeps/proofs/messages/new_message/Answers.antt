@@ -1,14 +1,11 @@
 -- `messages::new_message` meets its contract: the sum fits, and its cut would change nothing.
 use Prim.Native.Nat.{◌+◌}
 use mathlib.Core.Path.{◌≡◌, ◌∙◌}
-use native.Mathlib.Omega.{arith}
 use lib.IntN.{ℤ, ◌+ℤ◌}
-use mir.Facts.{to_z-of_z}
 use mir.Syntax.{w16}
-use mir.Val.{SFits, to_z, of_z}
+use mir.Val.{to_z, of_z}
 use Rattle.calls.proofs.Signed.{told}
-use Rattle.message.proofs.Machine.{sum_fits}
-use Rattle.message.specs.MessageLaws.{f-sum}
+use Rattle.sweeps.proofs.Combined.{f-of-sum}
 use Rattle.sweeps.specs.Private.{message_at, new_at}
 use Rattle.sweeps.proofs.messages.new_message.Goals as goal
 
@@ -21,12 +18,9 @@ returns c =
     let x-after : ℤ = message_at w (a.x + (a.p + a.d)) in
     let y-after : ℤ = message_at w (a.y + (a.p + a.d)) in
     let r = c.requires.readable in
-    let fits : SFits w16 (x-after +ℤ y-after) =
-    sum_fits x-after y-after (omega (arith, r.x-after, r.y-after, c.requires.rule_in_range.ceiling-le))
-    in
-    let sum_is : to_z w16 (of_z w16 (to_z w16 (of_z w16 c.get.result) +ℤ to_z w16 (of_z w16 c.get-2.result)))
-    ≡ x-after +ℤ y-after =
-    rw (told c.get.type_inv c.get.ensures, told c.get-2.type_inv c.get-2.ensures) (to_z-of_z fits)
+    let sum_is : to_z w16 (of_z w16 c.sum-sum.result) ≡ x-after +ℤ y-after =
+    told c.sum-sum.type_inv c.sum-sum.ensures
+    ∙ rw (told c.get.type_inv c.get.ensures, told c.get-2.type_inv c.get-2.ensures)
     in
     told c.combine.type_inv c.combine.ensures
     ∙ simp (
@@ -35,5 +29,5 @@ returns c =
       sum_is,
       told c.get-4.type_inv c.get-4.ensures,
       told c.get-5.type_inv c.get-5.ensures,
-      ← f-sum a.rule own x-after y-after c.requires.rule_in_range.some r.own,
+      ← f-of-sum a.rule own x-after y-after r.own,
     )

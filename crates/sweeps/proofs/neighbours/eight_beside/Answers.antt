@@ -5,8 +5,5 @@ use Rattle.sweeps.proofs.Parts.{array-next}
 use Rattle.sweeps.proofs.neighbours.eight_beside.Goals as goal
 
 pub loop-i-preserved : goal.loop-i-preserved
-loop-i-preserved c = (
-  omega arith,
-  array-next c.loop-i.invariant.1 (omega arith)
-      (told c.new_message.type_inv c.new_message.ensures),
-)
+loop-i-preserved c =
+    array-next c.loop-i.invariant (omega arith) (told c.new_message.type_inv c.new_message.ensures)
