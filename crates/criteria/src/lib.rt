@@ -4,8 +4,8 @@
 // the settings and the lengths.
 #![tactic(auto)]
 
-ghost use Rattle.std.specs.Prelude.{◌≡◌, true, ◌+◌, ◌<◌, ◌≤◌, ◌^◌, min, eqb, pos, nat_abs, length, get_or};
-ghost use Rattle.calls.specs.Bounds.{largest_m, largest_ceiling};
+ghost use Rattle.std.specs.Prelude.{◌≡◌, true, ◌+◌, ◌<◌, ◌≤◌, ◌^◌, eqb, pos, nat_abs, length, get_or};
+ghost use Rattle.calls.specs.Bounds.{largest_m};
 ghost use Rattle.polar.specs.Mask.{by_kind};
 ghost use Rattle.calls.specs.LentMemory.{overwrite};
 ghost use Rattle.criteria.specs.Marks.{mark_of};
@@ -40,82 +40,57 @@ fn mark(value: i16) -> u8
 }
 
 // The marks of the first n soft values.
+#[tactic(auto, using(calls::specs::WrittenLaws::written_next))]
 pub fn mark_all(n: usize, soft: &[i16], marks: &mut [u8])
     requires { (n ≤ length soft.now) × (n ≤ length marks.old) }
     ensures { marks.new
         ≡ overwrite n (λ i. mark_of (get_or soft.now i (pos 0))) marks.old }
 {
-    let mut i = 0;
-    while i < n {
+    for i in 0..n {
         marks[i] = mark(soft[i]);
-        i += 1;
     }
 }
 
-// Whether no tie is among the first n marks.
-fn untied(marks: &[u8], n: usize) -> bool
-    requires { n ≤ length marks.now }
-    ensures { result ≡ untied n (λ i. get_or marks.now i 0) }
+// Whether no tie is among the marks. Like every test of all positions here it looks at each of them, since a loop with
+// an early exit is not vectorised.
+fn untied(marks: &[u8]) -> bool
+    ensures { result ≡ untied (length marks.now) (λ i. get_or marks.now i 0) }
 {
-    let mut clear = true;
-    let mut i = 0;
-    while i < n {
-        clear = calls::both(clear, marks[i] != 2);
-        i += 1;
-    }
-    clear
+    marks.iter().fold(true, |clear, mark| clear & (*mark != 2))
 }
 
-fn smaller(a: u16, b: u16) -> u16
-    ensures { result ≡ min a b }
+// Criterion 2. It keeps the least size, which needs no branch.
+fn least_size(operand: u16, soft: &[i16]) -> bool
+    ensures { result ≡ least_size (length soft.now) operand (λ i. get_or soft.now i (pos 0)) }
 {
-    if a < b { a } else { b }
-}
-
-// Criterion 2 of the first n soft values. It keeps the least size, which needs no branch.
-fn least_size(operand: u16, soft: &[i16], n: usize) -> bool
-    requires { SoftValues n soft.now }
-    ensures { result ≡ least_size n operand (λ i. get_or soft.now i (pos 0)) }
-{
-    let mut least_of_all = 65535;
-    let mut i = 0;
-    while i < n {
-        least_of_all = smaller(least_of_all, calls::size(soft[i]));
-        i += 1;
-    }
-    operand <= least_of_all
+    let sizes = soft.iter().map(|value| value.unsigned_abs());
+    operand <= sizes.fold(u16::MAX, u16::min)
 }
 
 // The size that criterion 4 compares at a position: that of the soft value, or at a frozen position, which it leaves
 // out, the largest number, which no operand is above. Both are computed first, so that the loop has no branch.
 fn information_size(kind: u8, value: i16) -> u16
-    requires { nat_abs value ≤ largest_ceiling }
     ensures { result ≡ by_kind kind (nat_abs value) (λ bit. 65535) }
 {
-    let size = calls::size(value);
+    let size = value.unsigned_abs();
     if polar::is_information(kind) {
         size
     } else {
-        65535
+        u16::MAX
     }
 }
 
-// Criterion 4 of the first n soft values.
-fn least_information_size(operand: u16, mask: &[u8], soft: &[i16], n: usize) -> bool
-    requires { (n ≤ length mask.now) × SoftValues n soft.now }
+// Criterion 4.
+fn least_information_size(operand: u16, mask: &[u8], soft: &[i16]) -> bool
+    requires { length mask.now ≡ length soft.now }
     ensures { result
-        ≡ least_information_size n operand mask.now (λ i. get_or soft.now i (pos 0)) }
+        ≡ least_information_size (length mask.now) operand mask.now (λ i. get_or soft.now i (pos 0)) }
 {
-    let mut least_of_information = 65535;
-    let mut position = 0;
-    while position < n {
-        least_of_information = smaller(
-            least_of_information,
-            information_size(mask[position], soft[position]),
-        );
-        position += 1;
-    }
-    operand <= least_of_information
+    let information_sizes = mask
+        .iter()
+        .zip(soft)
+        .map(|(kind, value)| information_size(*kind, *value));
+    operand <= information_sizes.fold(u16::MAX, u16::min)
 }
 
 // Whether a position allows criterion 3: it is frozen, or its mark is that of the iteration before.
@@ -125,64 +100,69 @@ fn keeps_mark(kind: u8, before: u8, now: u8) -> bool
     !polar::is_information(kind) || before == now
 }
 
-// Whether the marks of the first n soft values are those of the iteration before, at the information positions.
-fn same_marks(mask: &[u8], before: &[u8], soft: &[i16], n: usize) -> bool
-    requires { (n ≤ length mask.now) × (n ≤ length before.now) × (n ≤ length soft.now) }
-    ensures { result ≡ same_marks n mask.now (λ i. get_or before.now i 0)
+// Whether the marks of the soft values are those of the iteration before, at the information positions.
+fn same_marks(mask: &[u8], before: &[u8], soft: &[i16]) -> bool
+    requires { (length mask.now ≡ length before.now) × (length mask.now ≡ length soft.now) }
+    ensures { result ≡ same_marks (length mask.now) mask.now (λ i. get_or before.now i 0)
         (λ i. mark_of (get_or soft.now i (pos 0))) }
 {
-    let mut same = true;
-    let mut i = 0;
-    while i < n {
-        same = calls::both(same, keeps_mark(mask[i], before[i], mark(soft[i])));
-        i += 1;
-    }
-    same
+    mask.iter().zip(before).zip(soft).fold(
+        true,
+        |same, ((kind, before), value)| same & keeps_mark(*kind, *before, mark(*value)),
+    )
 }
 
-// Copies the first n marks.
-fn copy(marks: &[u8], n: usize, bits: &mut [u8])
-    requires { (n ≤ length marks.now) × (n ≤ length bits.old) }
-    ensures { bits.new ≡ overwrite n (λ i. get_or marks.now i 0) bits.old }
+// Copies the marks to the first elements.
+fn copy(marks: &[u8], bits: &mut [u8])
+    requires { length marks.now ≤ length bits.old }
+    ensures { bits.new ≡ overwrite (length marks.now) (λ i. get_or marks.now i 0) bits.old }
 {
-    let mut i = 0;
-    while i < n {
-        bits[i] = marks[i];
-        i += 1;
-    }
+    bits[..marks.len()].copy_from_slice(marks);
 }
 
-// Whether the first n bytes of both are equal.
-fn equal(a: &[u8], b: &[u8], n: usize) -> bool
-    requires { (n ≤ length a.now) × (n ≤ length b.now) }
-    ensures { result ≡ every n (λ i. eqb (get_or a.now i 0) (get_or b.now i 0)) }
+// Whether the bytes begin with these. The library's method of this name exits early, and takes longer.
+fn starts_with(bytes: &[u8], first: &[u8]) -> bool
+    requires { length first.now ≤ length bytes.now }
+    ensures { result ≡ every (length first.now) (λ i. eqb (get_or bytes.now i 0) (get_or first.now i 0)) }
 {
-    let mut same = true;
-    let mut i = 0;
-    while i < n {
-        same = calls::both(same, a[i] == b[i]);
-        i += 1;
-    }
-    same
+    bytes[..first.len()]
+        .iter()
+        .zip(first)
+        .fold(true, |same, (x, y)| same & (*x == *y))
+}
+
+// What a criterion reads of an iteration beside the marks: the mask, the soft values and the coded marks, an element
+// of each for each of the block's N = 2^m positions.
+#[derive(Clone, Copy)]
+struct Outputs<'a> {
+    m: u32,
+    mask: &'a [u8],
+    soft: &'a [i16],
+    coded: &'a [u8],
+    ghost m_in_range: { m ≤ largest_m },
+    ghost mask_length: { length mask.now ≡ 2 ^ m },
+    ghost soft_length: { length soft.now ≡ 2 ^ m },
+    ghost coded_length: { length coded.now ≡ 2 ^ m },
+    ghost coded_marks: { MarkBytes (2 ^ m) coded.now },
 }
 
 // Criterion 1: no tie, and the marks coded give the coded marks.
-fn g_matrix(m: u32, marks: &[u8], coded: &[u8]) -> bool
-    requires m_le_largest_m { m ≤ largest_m }
-    requires mark_bytes { MarkBytes (2 ^ m) marks.now × MarkBytes (2 ^ m) coded.now }
-    ensures { result ≡ g_matrix m (λ i. get_or marks.now i 0) (λ i. get_or coded.now i 0) }
+#[tactic(auto, using(crate::proofs::Matrix::room))]
+fn g_matrix(outputs: &Outputs, marks: &[u8]) -> bool
+    requires marks_length { length marks.now ≡ 2 ^ outputs.now.m }
+    requires mark_bytes { MarkBytes (2 ^ outputs.now.m) marks.now }
+    ensures { result ≡ g_matrix outputs.now.m (λ i. get_or marks.now i 0) (λ i. get_or outputs.now.coded.now i 0) }
 {
-    let n = polar::power_of_two(m);
-    if !untied(marks, n) {
+    if !untied(marks) {
         return false;
     }
-    if !untied(coded, n) {
+    if !untied(outputs.coded) {
         return false;
     }
     let mut bits = [0u8; MOST_POSITIONS];
-    copy(marks, n, &mut bits);
-    polar::transform(&mut bits, m);
-    equal(&bits, coded, n)
+    copy(marks, &mut bits);
+    polar::transform(&mut bits, outputs.m);
+    starts_with(&bits, outputs.coded)
 }
 
 // The steady count after one iteration more: the first iteration has none before it, and a change of
@@ -224,83 +204,55 @@ impl Memory {
         }
     }
 
-    // The steady count after an iteration with these soft values, where `before` holds
-    // the marks of the iteration before.
-    fn steady_next(
-        self,
-        m: u32,
-        criterion: Criterion,
-        mask: &[u8],
-        before: &[u8],
-        soft: &[i16],
-    ) -> u32
-        requires m_le_largest_m { (m ≤ largest_m) × MemoryInRange self }
-        requires m_in_bounds { (2 ^ m ≤ length mask.now) × (2 ^ m ≤ length before.now) × (2 ^ m ≤ length soft.now) }
+    // The steady count after an iteration with these outputs, where `before` holds the marks of the iteration before.
+    fn steady_next(self, criterion: Criterion, outputs: &Outputs, before: &[u8]) -> u32
+        requires in_range { MemoryInRange self }
+        requires before_length { length before.now ≡ 2 ^ outputs.now.m }
         ensures { result ≡ count_for criterion (steady_next self.iterations self.steady
-            (same_marks (2 ^ m) mask.now (λ i. get_or before.now i 0)
-            (λ i. mark_of (get_or soft.now i (pos 0))))) }
+            (same_marks (2 ^ outputs.now.m) outputs.now.mask.now (λ i. get_or before.now i 0)
+            (λ i. mark_of (get_or outputs.now.soft.now i (pos 0))))) }
     {
         match criterion {
-            Criterion::Never => 0,
-            Criterion::GMatrix => 0,
-            Criterion::LeastSize(_) => 0,
-            Criterion::LeastInformationSize(_) => 0,
+            Criterion::Never
+            | Criterion::GMatrix
+            | Criterion::LeastSize(_)
+            | Criterion::LeastInformationSize(_) => 0,
             Criterion::Steady(_) => {
-                let iterations = self.iterations;
-                let steady = self.steady;
-                let same = same_marks(mask, before, soft, polar::power_of_two(m));
-                steady_after(iterations, steady, same)
+                let same = same_marks(outputs.mask, before, outputs.soft);
+                steady_after(self.iterations, self.steady, same)
             }
         }
     }
 
-    // After an iteration with these soft values and coded marks.
-    fn next(
-        self,
-        m: u32,
-        criterion: Criterion,
-        mask: &[u8],
-        before: &[u8],
-        soft: &[i16],
-        coded: &[u8],
-    ) -> Memory
-        requires m_le_largest_m { (m ≤ largest_m) × MemoryInRange self }
-        requires m_in_bounds { (2 ^ m ≤ length mask.now) × (2 ^ m ≤ length before.now) × (2 ^ m ≤ length soft.now) }
-        ensures { result ≡ memory_next m criterion mask.now self (λ i. get_or before.now i 0)
-            (λ i. get_or soft.now i (pos 0)) (λ i. get_or coded.now i 0) }
+    // After an iteration with these outputs.
+    fn next(self, criterion: Criterion, outputs: &Outputs, before: &[u8]) -> Memory
+        requires in_range { MemoryInRange self }
+        requires before_length { length before.now ≡ 2 ^ outputs.now.m }
+        ensures { result ≡ memory_next outputs.now.m criterion outputs.now.mask.now self (λ i. get_or before.now i 0)
+            (λ i. get_or outputs.now.soft.now i (pos 0)) (λ i. get_or outputs.now.coded.now i 0) }
     {
-        let iterations = self.iterations;
-        let steady = self.steady_next(m, criterion, mask, before, soft);
         Memory {
-            iterations: iterations + 1,
-            steady,
+            iterations: self.iterations + 1,
+            steady: self.steady_next(criterion, outputs, before),
         }
     }
 }
 
-// Whether the criterion holds after the iteration whose soft values, marks and coded marks these are.
-fn holds_now(
-    m: u32,
-    criterion: Criterion,
-    memory: Memory,
-    mask: &[u8],
-    soft: &[i16],
-    marks: &[u8],
-    coded: &[u8],
-) -> bool
-    requires m_le_largest_m { m ≤ largest_m }
-    requires m_in_bounds { 2 ^ m ≤ length mask.now }
-    requires soft_values { SoftValues (2 ^ m) soft.now × MarkBytes (2 ^ m) marks.now × MarkBytes (2 ^ m) coded.now }
-    ensures { result ≡ holds_now m criterion mask.now memory (λ i. get_or soft.now i (pos 0))
-        (λ i. get_or marks.now i 0) (λ i. get_or coded.now i 0) }
+// Whether the criterion holds after the iteration whose outputs and marks these are.
+fn holds_now(criterion: Criterion, memory: Memory, outputs: &Outputs, marks: &[u8]) -> bool
+    requires marks_length { length marks.now ≡ 2 ^ outputs.now.m }
+    requires mark_bytes { MarkBytes (2 ^ outputs.now.m) marks.now }
+    ensures { result ≡ holds_now outputs.now.m criterion outputs.now.mask.now memory
+        (λ i. get_or outputs.now.soft.now i (pos 0)) (λ i. get_or marks.now i 0)
+        (λ i. get_or outputs.now.coded.now i 0) }
 {
     match criterion {
         Criterion::Never => false,
-        Criterion::GMatrix => g_matrix(m, marks, coded),
-        Criterion::LeastSize(operand) => least_size(operand, soft, polar::power_of_two(m)),
+        Criterion::GMatrix => g_matrix(outputs, marks),
+        Criterion::LeastSize(operand) => least_size(operand, outputs.soft),
         Criterion::Steady(iterations) => iterations <= memory.steady,
         Criterion::LeastInformationSize(operand) => {
-            least_information_size(operand, mask, soft, polar::power_of_two(m))
+            least_information_size(operand, outputs.mask, outputs.soft)
         }
     }
 }
@@ -322,9 +274,16 @@ pub fn try_criterion(
     ensures { CriterionTried m criterion memory mask.now (λ i. get_or soft.now i (pos 0))
         (λ i. get_or coded.now i 0) marks.old marks.new result }
 {
-    let next = memory.next(m, criterion, mask, marks, soft, coded);
-    mark_all(polar::power_of_two(m), soft, marks);
-    let holds = holds_now(m, criterion, next, mask, soft, marks, coded);
+    let n = polar::power_of_two(m);
+    let outputs = Outputs {
+        m,
+        mask: &mask[..n],
+        soft: &soft[..n],
+        coded: &coded[..n],
+    };
+    let next = memory.next(criterion, &outputs, &marks[..n]);
+    mark_all(n, soft, marks);
+    let holds = holds_now(criterion, next, &outputs, &marks[..n]);
     Progress {
         memory: next,
         holds,

@@ -9,7 +9,7 @@ ghost use Rattle.calls.specs.Numbers.{number_of, between};
 ghost use Rattle.settings.specs.Settings.{operand_fits, settings_number, slices_fit, within_ceiling, decode_number};
 ghost use Rattle.settings.specs.Private.{mask_and_llr_number};
 
-use calls::{Answer, LARGEST_CEILING, LARGEST_M, LARGEST_SCALE, Refusal};
+use calls::{LARGEST_CEILING, LARGEST_M, LARGEST_SCALE, Refusal};
 
 // The largest limit T.
 const LARGEST_LIMIT: u32 = 64;
@@ -38,55 +38,41 @@ pub struct Lengths {
     pub work: usize,
 }
 
-// From low to high, both included.
-fn between(low: u32, high: u32, x: u32) -> bool
-    ensures { result ≡ between low high x }
-{
-    calls::both(low <= x, x <= high)
-}
-
 // The operand's range is its criterion's.
 fn operand_fits(ceiling: u32, criterion: u32, operand: u32) -> bool
     ensures { result ≡ operand_fits ceiling criterion operand }
 {
     match criterion {
-        0 => operand == 0,
-        1 => operand == 0,
-        2 => between(1, ceiling, operand),
-        3 => between(1, 8, operand),
-        _ => between(1, ceiling, operand),
+        0 | 1 => operand == 0,
+        2 => (1..=ceiling).contains(&operand),
+        3 => (1..=8).contains(&operand),
+        _ => (1..=ceiling).contains(&operand),
     }
 }
 
 // 1 to 6.
-fn settings_refusal(settings: Settings) -> Answer
+fn settings_refusal(settings: Settings) -> Result<(), Refusal>
     ensures { number_of result ≡ settings_number settings }
 {
-    let m = settings.m;
-    let ceiling = settings.ceiling;
-    let scale = settings.scale;
-    let limit = settings.limit;
-    let criterion = settings.criterion;
-    let operand = settings.operand;
-    if !between(1, LARGEST_M, m) {
-        return Answer::Refused(Refusal::BlockLength);
+    if !(1..=LARGEST_M).contains(&settings.m) {
+        return Err(Refusal::BlockLength);
     }
-    if !between(1, LARGEST_CEILING, ceiling) {
-        return Answer::Refused(Refusal::Ceiling);
+    if !(1..=LARGEST_CEILING).contains(&settings.ceiling) {
+        return Err(Refusal::Ceiling);
     }
-    if !between(1, LARGEST_SCALE, scale) {
-        return Answer::Refused(Refusal::Scale);
+    if !(1..=LARGEST_SCALE).contains(&settings.scale) {
+        return Err(Refusal::Scale);
     }
-    if !between(1, LARGEST_LIMIT, limit) {
-        return Answer::Refused(Refusal::Limit);
+    if !(1..=LARGEST_LIMIT).contains(&settings.limit) {
+        return Err(Refusal::Limit);
     }
-    if LARGEST_CRITERION < criterion {
-        return Answer::Refused(Refusal::Criterion);
+    if LARGEST_CRITERION < settings.criterion {
+        return Err(Refusal::Criterion);
     }
-    if !operand_fits(ceiling, criterion, operand) {
-        return Answer::Refused(Refusal::Operand);
+    if !operand_fits(settings.ceiling, settings.criterion, settings.operand) {
+        return Err(Refusal::Operand);
     }
-    Answer::Done
+    Ok(())
 }
 
 // 7, of the lengths of the mask, of the LLRs and of the slices that are written.
@@ -95,73 +81,63 @@ fn slices_fit(m: u32, mask: usize, llr: usize, lengths: Lengths) -> bool
     ensures { result ≡ slices_fit m mask llr lengths }
 {
     let n = polar::power_of_two(m);
-    let soft = lengths.soft;
-    let mark = lengths.mark;
-    let coded_soft = lengths.coded_soft;
-    let coded_mark = lengths.coded_mark;
-    let work = lengths.work;
-    let inputs = calls::both(n <= mask, n <= llr);
-    let outputs = calls::both(calls::both(inputs, n <= soft), n <= mark);
-    let coded = calls::both(calls::both(outputs, n <= coded_soft), n <= coded_mark);
-    calls::both(coded, 2 * (m as usize + 1) * n <= work)
+    n <= mask
+        && n <= llr
+        && n <= lengths.soft
+        && n <= lengths.mark
+        && n <= lengths.coded_soft
+        && n <= lengths.coded_mark
+        && 2 * (m as usize + 1) * n <= lengths.work
 }
 
 // Whether a value lies from low to high. No value is negated, so -32768 is tested as any other.
 fn lies_within(low: i16, high: i16, value: i16) -> bool
     ensures { result ≡ le_z low value && le_z value high }
 {
-    calls::both(low <= value, value <= high)
+    (low <= value) & (value <= high)
 }
 
-// 10, of the first n LLRs. It keeps one flag, without a branch.
-fn within_ceiling(llr: &[i16], n: usize, ceiling: u32) -> bool
-    requires { (n ≤ length llr.now) × (ceiling ≤ largest_ceiling) }
-    ensures { result ≡ within_ceiling n ceiling llr.now }
+// 10. It looks at every LLR and keeps one flag, without a branch.
+fn within_ceiling(llr: &[i16], ceiling: u32) -> bool
+    requires { ceiling ≤ largest_ceiling }
+    ensures { result ≡ within_ceiling (length llr.now) ceiling llr.now }
 {
     let high = ceiling as i16;
     let low = -high;
     let mut within = true;
-    let mut i = 0;
-    while i < n {
-        within = calls::both(within, lies_within(low, high, llr[i]));
-        i += 1;
+    for value in llr {
+        within &= lies_within(low, high, *value);
     }
     within
 }
 
 // 8 to 10, where the tests before have passed.
-fn block_refusal(m: u32, ceiling: u32, mask: &[u8], llr: &[i16]) -> Answer
+#[tactic(auto, using(crate::proofs::Firsts::llr_firsts))]
+fn block_refusal(m: u32, ceiling: u32, mask: &[u8], llr: &[i16]) -> Result<(), Refusal>
     requires le_m { (1 ≤ m) × (m ≤ largest_m) × (ceiling ≤ largest_ceiling) }
     requires m_in_bounds { (2 ^ m ≤ length mask.now) × (2 ^ m ≤ length llr.now) }
     ensures { number_of result ≡ mask_and_llr_number m ceiling mask.now llr.now }
 {
-    match polar::code_refusal(polar::Code { m: m }, mask, llr.len()) {
-        Answer::Refused(refusal) => Answer::Refused(refusal),
-        Answer::Done => {
-            let n = polar::power_of_two(m);
-            if within_ceiling(llr, n, ceiling) {
-                Answer::Done
-            } else {
-                Answer::Refused(Refusal::LlrAboveCeiling)
-            }
-        }
+    polar::code_refusal(polar::Code { m }, mask, llr.len())?;
+    let n = polar::power_of_two(m);
+    if !within_ceiling(&llr[..n], ceiling) {
+        return Err(Refusal::LlrAboveCeiling);
     }
+    Ok(())
 }
 
 // Every test of the decoder. It writes nothing.
-pub fn refusal(settings: Settings, mask: &[u8], llr: &[i16], lengths: Lengths) -> Answer
+pub fn refusal(
+    settings: Settings,
+    mask: &[u8],
+    llr: &[i16],
+    lengths: Lengths,
+) -> Result<(), Refusal>
     ensures { number_of result ≡ decode_number settings mask.now llr.now lengths }
 {
-    match settings_refusal(settings) {
-        Answer::Refused(refusal) => Answer::Refused(refusal),
-        Answer::Done => {
-            let m = settings.m;
-            let ceiling = settings.ceiling;
-            if slices_fit(m, mask.len(), llr.len(), lengths) {
-                block_refusal(m, ceiling, mask, llr)
-            } else {
-                Answer::Refused(Refusal::ShortSlice)
-            }
-        }
+    settings_refusal(settings)?;
+    if !slices_fit(settings.m, mask.len(), llr.len(), lengths) {
+        return Err(Refusal::ShortSlice);
     }
+    block_refusal(settings.m, settings.ceiling, mask, llr)
 }

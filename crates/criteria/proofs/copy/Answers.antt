@@ -1,8 +1,6 @@
 -- `copy` meets its contract.
-use mathlib.Core.Path.{refl}
-use native.Mathlib.Omega.{arith}
-use Rattle.calls.specs.WrittenLaws.{written_next}
+use Rattle.criteria.proofs.Matrix.{copied}
 use Rattle.criteria.proofs.copy.Goals as goal
 
-pub loop-i-preserved : goal.loop-i-preserved
-loop-i-preserved c = (omega arith, written_next c.loop-i.invariant.1 refl (omega arith))
+pub returns : goal.returns
+returns c = rw c.copy_from_slice.ensures.after (copied c.args.marks.now c.args.bits.now c.requires)

@@ -1,4 +1,3 @@
-use Prim.Native.Nat.{◌≤◌, ◌-◌}
 use lib.IntN.{pos}
 use lib.ListN.{get_or}
 use Rattle.criteria.specs.Marks.{mark_of}
@@ -6,7 +5,4 @@ use Rattle.calls.specs.WrittenLaws.{Written}
 use Rattle.criteria.proofs.mark_all.Given as goal
 
 abbrev pub invariant-loop-i : goal.invariant-loop-i
-invariant-loop-i l = (l.i ≤ l.n) × Written l.i (λ j. mark_of (get_or l.soft j (pos 0))) l.initial.marks l.marks
-
-abbrev pub decreases-loop-i : goal.decreases-loop-i
-decreases-loop-i l = l.n - l.i
+invariant-loop-i l = Written l.i (λ j. mark_of (get_or l.soft j (pos 0))) l.initial.marks l.marks
