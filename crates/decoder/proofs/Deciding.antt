@@ -1,19 +1,20 @@
 -- What `decode` comes to: a refusal leaves everything as it was, and a run from the start is what the definitions say.
-use Prim.Native.Nat.{ℕ, zero, suc, ◌≤◌}
+use Prim.Native.Nat.{ℕ, zero, suc, ◌^◌, ◌≤◌}
 use mathlib.Core.Path.{◌≡◌, refl, sym, ap, subst, ◌∙◌}
 use mathlib.Core.List.{List}
 use native.Mathlib.Omega.{arith}
 use lib.IntN.{ℤ}
+use Rattle.std.specs.Prelude.{Result as Fallible, Ok, Err}
 use Rattle.calls.specs.declared.Refusal.{Refusal}
-use Rattle.calls.specs.Numbers.{refusal_number, first_refusal}
+use Rattle.calls.specs.Numbers.{refusal_number, number_of, first_refusal}
 use Rattle.calls.specs.NumberLaws.{refused-first, refused-keeps}
-use Rattle.message.specs.MessageLaws.{RuleInRange}
+use Rattle.message.specs.Rule.{RuleInRange}
 use Rattle.sweeps.specs.IterationLaws.{WorkspaceValid, valid-start}
 use Rattle.settings.specs.declared.Settings.{Settings}
-use Rattle.settings.specs.SettingsLaws.{Accepted}
+use Rattle.settings.specs.SettingsLaws.{Accepted, accepted}
 use Rattle.settings.specs.Slices.{Slices, slices, lengths_of}
-use Rattle.decoder.specs.declared.Outcome.{Outcome}
-use Rattle.decoder.specs.declared.Outcome.TheVariants.{Refused}
+use Rattle.settings.specs.SlicesLaws.{OutputsFit, outputs-fit, fit-with}
+use Rattle.decoder.specs.declared.Ending.{Ending as CodeEnding}
 use Rattle.decoder.specs.Decoder.{
   rule_of,
   Ending,
@@ -35,7 +36,7 @@ by-refusal (suc n) e h = refl
 
 module _ (s : Settings) (mask : List ℕ) (llr : List ℤ) (lent : Slices) where
   pub decoded-refused : (r : Refusal) → call_number s mask llr lent ≡ refusal_number r
-      → Decoded s mask llr lent lent (Refused r)
+      → Decoded s mask llr lent lent (Err r)
   decoded-refused r is = record {
     answer = rw is (by-refusal (refusal_number r) (ending s mask llr lent.work) (refused-first r));
     slices = rw is (sym (refused-keeps r _ lent));
@@ -57,9 +58,9 @@ module _ (s : Settings) (mask : List ℕ) (llr : List ℤ) (lent : Slices) where
         accepted.within)
 
     -- a run that begins where the start has been written
-    pub decoded-run : (w : List ℤ) (x : Slices) (r : Outcome) → w ≡ start_of s mask llr lent.work
+    pub decoded-run : (w : List ℤ) (x : Slices) (r : CodeEnding) → w ≡ start_of s mask llr lent.work
         → EndsAs s mask (end_of s mask w) (slices lent.soft lent.mark lent.coded_soft lent.coded_mark w) x r
-        → Decoded s mask llr lent x r
+        → Decoded s mask llr lent x (Ok r)
     decoded-run w x r is ends =
         let e : end_of s mask w ≡ ending s mask llr lent.work =
         rw is (sym (run-from-start s mask llr lent.work)) in
@@ -72,11 +73,38 @@ module _ (s : Settings) (mask : List ℕ) (llr : List ℤ) (lent : Slices) where
         }
 
     -- the same under criterion 0
-    pub decoded-limit : (w : List ℤ) (x : Slices) (r : Outcome) → w ≡ start_of s mask llr lent.work → s.criterion ≡ 0
+    pub decoded-limit : (w : List ℤ) (x : Slices) (r : CodeEnding) → w ≡ start_of s mask llr lent.work
+        → s.criterion ≡ 0
         → 1 ≤ s.limit
         → EndsAs s mask (limit_of s) (slices lent.soft lent.mark lent.coded_soft lent.coded_mark w) x r
-        → Decoded s mask llr lent x r
+        → Decoded s mask llr lent x (Ok r)
     decoded-limit w x r is never some ends =
         let all = slices lent.soft lent.mark lent.coded_soft lent.coded_mark w in
         decoded-run w x r is
         (subst (λ (e : Ending). EndsAs s mask e all x r) (sym (never_ends s mask w never some)) ends)
+
+  -- where the code has tested the call and written the start
+  module _ {answer : Fallible Unit Refusal} {u : Unit} {work : List ℤ}
+      (tested : number_of answer ≡ call_number s mask llr lent) (passed : answer ≡ Ok u)
+      (begun : work ≡ start_of s mask llr lent.work) where
+    ok : call_number s mask llr lent ≡ 0
+    ok = sym tested ∙ ap number_of passed
+
+    tests : Accepted s mask llr (lengths_of lent)
+    tests = accepted s mask llr (lengths_of lent) ok
+
+    pub work-valid : WorkspaceValid (rule_of s) s.m work
+    work-valid = begun-valid ok tests work begun
+
+    pub work-fits : OutputsFit (2 ^ s.m) (slices lent.soft lent.mark lent.coded_soft lent.coded_mark work)
+    work-fits = fit-with work (outputs-fit lent tests.slices)
+
+    pub run-decodes : {x : Slices} {r : CodeEnding}
+        → EndsAs s mask (end_of s mask work) (slices lent.soft lent.mark lent.coded_soft lent.coded_mark work) x r
+        → Decoded s mask llr lent x (Ok r)
+    run-decodes ends = decoded-run ok work _ _ begun ends
+
+    pub limit-decodes : {x : Slices} {r : CodeEnding} → s.criterion ≡ 0
+        → EndsAs s mask (limit_of s) (slices lent.soft lent.mark lent.coded_soft lent.coded_mark work) x r
+        → Decoded s mask llr lent x (Ok r)
+    limit-decodes never ends = decoded-limit ok work _ _ begun never tests.settings.limit-some ends

@@ -11,9 +11,10 @@ use Rattle.criteria.specs.Memory.{nothing}
 use Rattle.settings.specs.declared.Settings.{Settings}
 use Rattle.settings.specs.Slices.{Slices, lengths_of}
 use Rattle.settings.specs.SlicesLaws.{OutputsFit}
-use Rattle.decoder.specs.declared.Outcome.TheVariants.{Ended}
 use Rattle.decoder.specs.declared.Reason.TheVariants as reason
-use Rattle.decoder.specs.Decoder.{mark_at, end_of}
+use Rattle.std.specs.Prelude.{Ok}
+use Rattle.decoder.specs.declared.Ending.{Ending as CodeEnding}
+use Rattle.decoder.specs.Decoder.{mark_at, end_of, ended, result_of}
 use Rattle.decoder.specs.Run.{slices_after, EndsAs, OneIteration, RunGoesOn}
 use Rattle.decoder.specs.RunLaws.{
   run-begins,
@@ -65,16 +66,17 @@ module _ {s : Settings} {mask : List ℕ} {t : ℕ} {memory : Memory} {first now
       next-step fails n e = rw e record { goes_on = run-next h.goes_on marks step fails; slices = next-slices }
 
       pub found : r.holds ≡ true → suc t ≤ s.limit → (n : ℕ) → n ≡ suc t
-          → EndsAs s mask (end_of s mask first.work) first x (Ended n reason.Criterion)
+          → EndsAs s mask (end_of s mask first.work) first x (record { iterations = n; reason = reason.Criterion })
       found ok high n is =
           let e = run_ends h.goes_on marks step ok high in
           record { answer = rw (e, is); slices = next-slices ∙ rw e }
 
 -- at the limit, which is no 0
-pub steps-ended : (t : ℕ) {s : Settings} {mask : List ℕ} {memory : Memory} {first now : Slices}
+pub steps-ended : (t : ℕ) {s : Settings} {mask : List ℕ} {memory : Memory} {first now : Slices} {r : CodeEnding}
     → Steps s mask t memory first now
-    → t ≡ s.limit → 1 ≤ t → EndsAs s mask (end_of s mask first.work) first now (Ended t reason.Limit)
-steps-ended zero h last some = absurd (omega arith)
-steps-ended (suc t) h last some =
+    → t ≡ s.limit → 1 ≤ t → result_of (Ok r) ≡ ended s.limit 2
+    → EndsAs s mask (end_of s mask first.work) first now r
+steps-ended zero h last some is = absurd (omega arith)
+steps-ended (suc t) h last some is =
     let e = run-ends-last h.goes_on last some in
-    record { answer = rw (e, ← last); slices = h.slices ∙ rw (e, ← last) }
+    record { answer = rw e is; slices = h.slices ∙ rw (e, ← last) }

@@ -1,6 +1,8 @@
 -- Document 01, the outputs of "Messages" as 2026-02 amends them, "Endings" with the criterion of 2026-04, and what a
 -- call of the decoder answers and leaves. Definitions only.
 use Rattle.std.specs.Prelude.{ℕ, zero, suc, ◌-◌, ◌^◌, ◌≡◌, Bool, cond, List, ℤ, pos, get_or}
+use Rattle.std.specs.Prelude.{Result as Fallible, Ok, Err}
+use Rattle.calls.specs.declared.Refusal.{Refusal}
 use Rattle.calls.specs.Numbers.{refusal_number}
 use Rattle.calls.specs.LentMemory.{overwrite, unless_refused}
 use Rattle.calls.specs.Signs.{flipped}
@@ -24,8 +26,7 @@ use Rattle.settings.specs.Settings.{decode_number}
 use Rattle.settings.specs.Slices.{Slices, lengths_of}
 use Rattle.decoder.specs.declared.Reason.{Reason}
 use Rattle.decoder.specs.declared.Reason.TheVariants as reason
-use Rattle.decoder.specs.declared.Outcome.{Outcome}
-use Rattle.decoder.specs.declared.Outcome.TheVariants.{Ended, Refused}
+use Rattle.decoder.specs.declared.Ending.{Ending as CodeEnding}
 
 -- ---- outputs: the soft output of an information position i is L(0, i) + R(0, i), that of a frozen one C (2026-02);
 -- the coded soft output is L(m, i) + R(m, i). Both sums are cut to the ceiling
@@ -126,9 +127,13 @@ abbrev pub reason_number : Reason → ℕ
 reason_number reason.Criterion = 1
 reason_number reason.Limit = 2
 
+-- what `decode` hands back
+abbrev pub Outcome : Type 0
+Outcome = Fallible CodeEnding Refusal
+
 abbrev pub result_of : Outcome → Result
-result_of (Ended t reason) = ended t (reason_number reason)
-result_of (Refused r) = refused (refusal_number r)
+result_of (Ok e) = ended e.iterations (reason_number e.reason)
+result_of (Err r) = refused (refusal_number r)
 
 abbrev pub result_by : ℕ → Ending → Result
 result_by zero e = ended e.iteration e.reason

@@ -1,13 +1,13 @@
 -- A run of the decoder, step by step: what a criterion remembers and the slices hold after t iterations, what one
 -- iteration leaves, and what a run that has ended leaves. A reader of the contract of `decode` needs none of it.
-use Rattle.std.specs.Prelude.{ℕ, zero, suc, ◌≤◌, ◌≡◌, false, List, ℤ, get_or}
+use Rattle.std.specs.Prelude.{ℕ, zero, suc, ◌≤◌, ◌≡◌, false, List, ℤ, get_or, Ok}
 use Rattle.sweeps.specs.Iteration.{iteration}
 use Rattle.criteria.specs.declared.Memory.{Memory}
 use Rattle.criteria.specs.declared.Progress.{Progress}
 use Rattle.criteria.specs.Memory.{memory_after, memory_next, holds_now}
 use Rattle.settings.specs.declared.Settings.{Settings}
 use Rattle.settings.specs.Slices.{Slices}
-use Rattle.decoder.specs.declared.Outcome.{Outcome}
+use Rattle.decoder.specs.declared.Ending.{Ending as CodeEnding}
 use Rattle.decoder.specs.Decoder.{
   rule_of,
   soft_at,
@@ -38,8 +38,8 @@ slices_after s mask zero first = first
 slices_after s mask (suc t) first = outputs_of s mask (work_after s mask first.work (suc t)) first
 
 -- a run that has ended: its answer, and the slices before and after it
-pub record EndsAs (s : Settings) (mask : List ℕ) (e : Ending) (before after : Slices) (r : Outcome) : Type 0 where
-  pub answer : result_of r ≡ ended e.iteration e.reason
+pub record EndsAs (s : Settings) (mask : List ℕ) (e : Ending) (before after : Slices) (r : CodeEnding) : Type 0 where
+  pub answer : result_of (Ok r) ≡ ended e.iteration e.reason
   pub slices : after ≡ outputs_of s mask (work_after s mask before.work e.iteration) before
 
 -- one iteration: the slices before and after it, and the criterion's answer. The marks

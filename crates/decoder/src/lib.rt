@@ -5,9 +5,9 @@
 #![tactic(auto)]
 
 ghost use Rattle.std.specs.Prelude.{◌≡◌, ◌<◌, ◌≤◌, ◌^◌, nat_abs, length};
-ghost use Rattle.calls.specs.Bounds.{largest_ceiling, largest_scale};
+ghost use Rattle.calls.specs.Bounds.{largest_ceiling};
 ghost use Rattle.calls.specs.LentMemory.{overwrite};
-ghost use Rattle.message.specs.MessageLaws.{RuleInRange};
+ghost use Rattle.message.specs.Rule.{RuleInRange};
 ghost use Rattle.sweeps.specs.Iteration.{iteration, iterations};
 ghost use Rattle.sweeps.specs.IterationLaws.{WorkspaceValid};
 ghost use Rattle.criteria.specs.Private.{MemoryInRange};
@@ -25,48 +25,45 @@ ghost use Rattle.decoder.specs.Decoder.{
   outputs_of,
   Decoded,
   end_of,
+  ended,
+  result_of,
 };
 ghost use Rattle.decoder.specs.Run.{OneIteration, limit_of, EndsAs};
 
-use calls::{Answer, Refusal};
+use calls::Refusal;
 use criteria::{Criterion, Memory, Progress};
 use message::MinSum;
 use settings::{Lengths, Settings};
 
-// Why the decoder ended: the criterion held, or the limit was reached.
+// Why the decoder ended, in the order of the numbers: the criterion held, or the limit was reached.
 #[derive(Clone, Copy)]
 pub enum Reason {
-    Criterion,
-    Limit,
+    Criterion = 1,
+    Limit = 2,
 }
 
-// The iteration at which it ended, and the reason; or a refusal.
+// The iteration at which it ended, and the reason.
 #[derive(Clone, Copy)]
-pub enum Outcome {
-    Ended(u32, Reason),
-    Refused(Refusal),
+pub struct Ending {
+    pub iterations: u32,
+    pub reason: Reason,
 }
 
 // The number of a reason, for callers that print it or hand it to C.
 pub fn reason_number(reason: Reason) -> u32
     ensures { result ≡ reason_number reason }
 {
-    match reason {
-        Reason::Criterion => 1,
-        Reason::Limit => 2,
-    }
+    reason as u32
 }
 
 // The settings of the message arithmetic.
 fn rule_of(settings: Settings) -> MinSum
-    requires { (settings.ceiling ≤ largest_ceiling) × (settings.scale ≤ largest_scale) }
+    requires { RuleInRange (rule_of settings) }
     ensures { result ≡ rule_of settings }
 {
-    let ceiling = settings.ceiling;
-    let scale = settings.scale;
     MinSum {
-        ceiling: ceiling as u16,
-        scale: scale as u16,
+        ceiling: settings.ceiling as u16,
+        scale: settings.scale as u16,
     }
 }
 
@@ -75,28 +72,20 @@ fn criterion_of(settings: Settings) -> Criterion
     requires { settings.operand ≤ largest_ceiling }
     ensures { result ≡ criterion_of settings }
 {
-    let criterion = settings.criterion;
     let operand = settings.operand;
-    if criterion == 0 {
-        return Criterion::Never;
+    match settings.criterion {
+        0 => Criterion::Never,
+        1 => Criterion::GMatrix,
+        2 => Criterion::LeastSize(operand as u16),
+        3 => Criterion::Steady(operand),
+        _ => Criterion::LeastInformationSize(operand as u16),
     }
-    if criterion == 1 {
-        return Criterion::GMatrix;
-    }
-    if criterion == 2 {
-        return Criterion::LeastSize(operand as u16);
-    }
-    if criterion == 3 {
-        return Criterion::Steady(operand);
-    }
-    Criterion::LeastInformationSize(operand as u16)
 }
 
 // The soft output of a position by its mask byte: the sum of the messages of both directions, or the ceiling where the
 // bit is frozen, since every frozen bit is 0. Both are computed, so that the loop around it chooses without a branch.
 fn soft_output(rule: MinSum, kind: u8, left: i16, right: i16) -> i16
-    requires rule_in_range { RuleInRange rule }
-    requires left_bound { (nat_abs left ≤ rule.ceiling) × (nat_abs right ≤ rule.ceiling) }
+    requires { (nat_abs left ≤ rule.ceiling) × (nat_abs right ≤ rule.ceiling) }
     ensures { result ≡ soft_of rule kind left right }
 {
     let sum = message::add_cut(rule, left, right);
@@ -108,64 +97,69 @@ fn soft_output(rule: MinSum, kind: u8, left: i16, right: i16) -> i16
     }
 }
 
-// The soft outputs of a workspace, from column 0.
-fn soft_outputs(settings: Settings, mask: &[u8], work: &[i16], soft: &mut [i16])
-    requires workspace_valid { WorkspaceValid (rule_of settings) settings.m work.now }
-    requires m_in_bounds { (2 ^ settings.m ≤ length mask.now) × (2 ^ settings.m ≤ length soft.old) }
-    ensures { soft.new
-        ≡ overwrite (2 ^ settings.m) (soft_at settings mask.now work.now) soft.old }
-{
-    let rule = rule_of(settings);
-    let m = settings.m;
-    let n = polar::power_of_two(m);
-    let right = (m as usize + 1) * n;
-    let mut i = 0;
-    while i < n {
-        soft[i] = soft_output(
-            rule,
-            mask[i],
-            sweeps::get(work, 0, i),
-            sweeps::get(work, right, i),
-        );
-        i += 1;
-    }
+// A workspace to read outputs from, with the settings that it was made under.
+#[derive(Clone, Copy)]
+struct Workspace<'a> {
+    settings: Settings,
+    work: &'a [i16],
+    ghost valid: { WorkspaceValid (rule_of settings) settings.m work.now },
 }
 
-// The coded soft outputs of a workspace, from column m.
-fn coded_soft_outputs(settings: Settings, work: &[i16], coded_soft: &mut [i16])
-    requires workspace_valid { WorkspaceValid (rule_of settings) settings.m work.now }
-    requires m_in_bounds { 2 ^ settings.m ≤ length coded_soft.old }
-    ensures { coded_soft.new
-        ≡ overwrite (2 ^ settings.m) (coded_soft_at settings work.now) coded_soft.old }
-{
-    let rule = rule_of(settings);
-    let m = settings.m;
-    let n = polar::power_of_two(m);
-    let left = m as usize * n;
-    let right = (m as usize + 1 + m as usize) * n;
-    let mut i = 0;
-    while i < n {
-        coded_soft[i] = message::add_cut(
-            rule,
-            sweeps::get(work, left, i),
-            sweeps::get(work, right, i),
-        );
-        i += 1;
+impl Workspace<'_> {
+    // The soft outputs, from column 0.
+    fn soft_outputs(&self, mask: &[u8], soft: &mut [i16])
+        requires { (2 ^ self.now.settings.m ≤ length mask.now) × (2 ^ self.now.settings.m ≤ length soft.old) }
+        ensures { soft.new
+            ≡ overwrite (2 ^ self.now.settings.m) (soft_at self.now.settings mask.now self.now.work.now) soft.old }
+    {
+        let work = self.work;
+        let rule = rule_of(self.settings);
+        let m = self.settings.m;
+        let n = polar::power_of_two(m);
+        let right = (m as usize + 1) * n;
+        for i in 0..n {
+            soft[i] = soft_output(
+                rule,
+                mask[i],
+                sweeps::get(work, 0, i),
+                sweeps::get(work, right, i),
+            );
+        }
     }
-}
 
-// The coded soft outputs of a workspace and their marks.
-fn coded_outputs(settings: Settings, work: &[i16], coded_soft: &mut [i16], coded_mark: &mut [u8])
-    requires workspace_valid { WorkspaceValid (rule_of settings) settings.m work.now }
-    requires m_in_bounds { (2 ^ settings.m ≤ length coded_soft.old) × (2 ^ settings.m ≤ length coded_mark.old) }
-    ensures coded_soft_after { coded_soft.new
-        ≡ overwrite (2 ^ settings.m) (coded_soft_at settings work.now) coded_soft.old }
-    ensures coded_mark_after { coded_mark.new
-        ≡ overwrite (2 ^ settings.m) (coded_mark_at settings work.now) coded_mark.old }
-{
-    let m = settings.m;
-    coded_soft_outputs(settings, work, coded_soft);
-    criteria::mark_all(polar::power_of_two(m), coded_soft, coded_mark);
+    // The coded soft outputs, from column m.
+    fn coded_soft_outputs(&self, coded_soft: &mut [i16])
+        requires { 2 ^ self.now.settings.m ≤ length coded_soft.old }
+        ensures { coded_soft.new
+            ≡ overwrite (2 ^ self.now.settings.m) (coded_soft_at self.now.settings self.now.work.now) coded_soft.old }
+    {
+        let work = self.work;
+        let rule = rule_of(self.settings);
+        let m = self.settings.m;
+        let n = polar::power_of_two(m);
+        let left = m as usize * n;
+        let right = (m as usize + 1 + m as usize) * n;
+        for i in 0..n {
+            coded_soft[i] = message::add_cut(
+                rule,
+                sweeps::get(work, left, i),
+                sweeps::get(work, right, i),
+            );
+        }
+    }
+
+    // The coded soft outputs and their marks.
+    fn coded_outputs(&self, coded_soft: &mut [i16], coded_mark: &mut [u8])
+        requires { (2 ^ self.now.settings.m ≤ length coded_soft.old)
+            × (2 ^ self.now.settings.m ≤ length coded_mark.old) }
+        ensures coded_soft_after { coded_soft.new
+            ≡ overwrite (2 ^ self.now.settings.m) (coded_soft_at self.now.settings self.now.work.now) coded_soft.old }
+        ensures coded_mark_after { coded_mark.new
+            ≡ overwrite (2 ^ self.now.settings.m) (coded_mark_at self.now.settings self.now.work.now) coded_mark.old }
+    {
+        self.coded_soft_outputs(coded_soft);
+        criteria::mark_all(polar::power_of_two(self.settings.m), coded_soft, coded_mark);
+    }
 }
 
 // The four outputs of a workspace.
@@ -189,9 +183,10 @@ pub fn outputs(
         work.now) }
 {
     let m = settings.m;
-    soft_outputs(settings, mask, work, soft);
+    let workspace = Workspace { settings, work };
+    workspace.soft_outputs(mask, soft);
     criteria::mark_all(polar::power_of_two(m), soft, mark);
-    coded_outputs(settings, work, coded_soft, coded_mark);
+    workspace.coded_outputs(coded_soft, coded_mark);
 }
 
 // One iteration, its soft outputs, and its coded outputs.
@@ -216,8 +211,9 @@ fn iterate(
 {
     let m = settings.m;
     sweeps::iterate(rule_of(settings), m, work);
-    soft_outputs(settings, mask, work, soft);
-    coded_outputs(settings, work, coded_soft, coded_mark);
+    let workspace = Workspace { settings, work };
+    workspace.soft_outputs(mask, soft);
+    workspace.coded_outputs(coded_soft, coded_mark);
 }
 
 // One iteration, its outputs, and the criterion. Unless this is the first iteration, `mark` holds the marks of the
@@ -258,6 +254,17 @@ pub fn step(
     )
 }
 
+// The ending of a run that goes to the limit.
+fn limit_of(settings: Settings) -> Ending
+    ensures { result_of (Ok result) ≡ ended settings.limit 2 }
+{
+    let limit = settings.limit;
+    Ending {
+        iterations: limit,
+        reason: Reason::Limit,
+    }
+}
+
 // Steps until the criterion holds, or to the limit.
 fn run(
     settings: Settings,
@@ -267,7 +274,7 @@ fn run(
     coded_soft: &mut [i16],
     coded_mark: &mut [u8],
     work: &mut [i16],
-) -> Outcome
+) -> Ending
     requires workspace_valid { WorkspaceValid (rule_of settings) settings.m work.old }
     requires operand_le_largest_ceiling { (settings.operand ≤ largest_ceiling) × (1 ≤ settings.limit)
         × (settings.limit ≤ largest_limit) }
@@ -283,20 +290,19 @@ fn run(
 {
     let limit = settings.limit;
     let mut memory = Memory::new();
-    let mut iterations = 0;
-    while iterations < limit {
+    for done in 0..limit {
         let progress = step(
             settings, memory, mask, soft, mark, coded_soft, coded_mark, work,
         );
-        let holds = progress.holds;
-        let next = progress.memory;
-        iterations += 1;
-        if holds {
-            return Outcome::Ended(iterations, Reason::Criterion);
+        if progress.holds {
+            return Ending {
+                iterations: done + 1,
+                reason: Reason::Criterion,
+            };
         }
-        memory = next;
+        memory = progress.memory;
     }
-    Outcome::Ended(iterations, Reason::Limit)
+    limit_of(settings)
 }
 
 // As many iterations.
@@ -304,10 +310,8 @@ fn iterate_times(rule: MinSum, m: u32, count: u32, work: &mut [i16])
     requires { WorkspaceValid rule m work.old }
     ensures { work.new ≡ iterations rule m count work.old }
 {
-    let mut t = 0;
-    while t < count {
+    for _ in 0..count {
         sweeps::iterate(rule, m, work);
-        t += 1;
     }
 }
 
@@ -320,7 +324,7 @@ fn run_to_limit(
     coded_soft: &mut [i16],
     coded_mark: &mut [u8],
     work: &mut [i16],
-) -> Outcome
+) -> Ending
     requires workspace_valid { WorkspaceValid (rule_of settings) settings.m work.old }
     requires m_in_bounds { 2 ^ settings.m ≤ length mask.now }
     requires outputs_fit { OutputsFit (2 ^ settings.m)
@@ -336,7 +340,7 @@ fn run_to_limit(
     let limit = settings.limit;
     iterate_times(rule_of(settings), m, limit, work);
     outputs(settings, mask, work, soft, mark, coded_soft, coded_mark);
-    Outcome::Ended(limit, Reason::Limit)
+    limit_of(settings)
 }
 
 // Every check comes before the first write.
@@ -349,7 +353,7 @@ pub fn decode(
     coded_soft: &mut [i16],
     coded_mark: &mut [u8],
     work: &mut [i16],
-) -> Outcome
+) -> Result<Ending, Refusal>
     ensures { Decoded settings mask.now llr.now
         (slices soft.old mark.old
         coded_soft.old coded_mark.old work.old)
@@ -364,16 +368,14 @@ pub fn decode(
         coded_mark: coded_mark.len(),
         work: work.len(),
     };
-    match settings::refusal(settings, mask, llr, lengths) {
-        Answer::Refused(refusal) => Outcome::Refused(refusal),
-        Answer::Done => {
-            let m = settings.m;
-            let criterion = settings.criterion;
-            sweeps::begin(rule_of(settings), m, mask, llr, work);
-            if criterion == 0 {
-                return run_to_limit(settings, mask, soft, mark, coded_soft, coded_mark, work);
-            }
-            run(settings, mask, soft, mark, coded_soft, coded_mark, work)
-        }
-    }
+    settings::refusal(settings, mask, llr, lengths)?;
+    let m = settings.m;
+    let criterion = settings.criterion;
+    sweeps::begin(settings.ceiling as u16, m, mask, llr, work);
+    let ending = if criterion == 0 {
+        run_to_limit(settings, mask, soft, mark, coded_soft, coded_mark, work)
+    } else {
+        run(settings, mask, soft, mark, coded_soft, coded_mark, work)
+    };
+    Ok(ending)
 }

@@ -10,7 +10,7 @@ use Rattle.tally.specs.Runs.{Call, decoded}
 use Rattle.tally.specs.OldTallies.{old_tally_number}
 use Rattle.tally.specs.OldTallyLaws.{same_number}
 use Rattle.radios.specs.declared.Radios.{Radios}
-use Rattle.radios.specs.declared.RadioTallied.{RadioTallied}
+use Rattle.tally.specs.declared.Tallied.{Tallied}
 use Rattle.radios.specs.Radios.{radio_count, tally_of, radio_call_number, RadioDecode}
 
 -- neither 16 nor 15 refuses a call for a radio whose tally is an old one
@@ -20,12 +20,12 @@ old-tally-accepted radio tallies known old =
     rw (lt-ltb radio radio_count known) (same_number (tally_of radio tallies) ∙ old)
 
 -- so the call is answered as the decoder answers it, counted in the old tally and in no other, and written
-pub old-radio-goes-on : (radios : Radios) (radio : ℕ) (c : Call) (after : Slices) (r : RadioTallied)
+pub old-radio-goes-on : (radios : Radios) (radio : ℕ) (c : Call) (after : Slices) (r : Tallied Radios)
     → radio < radio_count
     → old_tally_number (tally_of radio radios.tallies) ≡ 0
     → RadioDecode radios radio c.settings c.mask c.llr c.slices after r
     → (result_of r.outcome ≡ decoded c)
-    × (r.radios.tallies ≡ set radios.tallies radio (counted (tally_of radio radios.tallies) (decoded c)))
+    × (r.tally.tallies ≡ set radios.tallies radio (counted (tally_of radio radios.tallies) (decoded c)))
     × (after ≡ decode_slices c.settings c.mask c.llr c.slices)
 old-radio-goes-on radios radio c after r known old d =
     let tallies = radios.tallies in

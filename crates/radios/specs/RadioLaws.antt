@@ -15,7 +15,7 @@ use Rattle.tally.specs.Tally.{tally_number, counted, answer_by, tally_by}
 use Rattle.tally.specs.Runs.{Call, decoded, none, tally_after, answers, others, counts_over}
 use Rattle.tally.specs.TallyLaws.{UsableOrFull, tally-counts, run-usable-or-full}
 use Rattle.radios.specs.declared.Radios.{Radios}
-use Rattle.radios.specs.declared.RadioTallied.{RadioTallied}
+use Rattle.tally.specs.declared.Tallied.{Tallied}
 use Rattle.radios.specs.Radios.{radio_count, radio_number, tally_of, radio_call_number, tallies_counted, RadioDecode}
 use Rattle.radios.specs.Runs.{
   CallFor,
@@ -100,8 +100,8 @@ module _ (radio : ℕ) (tallies : List Tally) (r : Result) where
 
 -- "The other 63 come back unchanged", of every call, refused ones too
 pub others-unchanged : {radios : Radios} {radio : ℕ} {s : Settings} {mask : List ℕ} {llr : List ℤ}
-    {before after : Slices} {r : RadioTallied} → RadioDecode radios radio s mask llr before after r
-    → (other : ℕ) → (other ≡ radio → ⊥) → tally_of other r.radios.tallies ≡ tally_of other radios.tallies
+    {before after : Slices} {r : Tallied Radios} → RadioDecode radios radio s mask llr before after r
+    → (other : ℕ) → (other ≡ radio → ⊥) → tally_of other r.tally.tallies ≡ tally_of other radios.tallies
 others-unchanged {radios} {radio} {s} {mask} {llr} {before} d other ne =
     rw d.tallies-are (others-kept radio radios.tallies (decode_result s mask llr before) other ne)
 

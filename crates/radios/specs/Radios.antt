@@ -9,7 +9,7 @@ use Rattle.tally.specs.declared.Tally.{Tally}
 use Rattle.tally.specs.Tally.{tally_number, counted, answer_by}
 use Rattle.tally.specs.Runs.{none}
 use Rattle.radios.specs.declared.Radios.{Radios}
-use Rattle.radios.specs.declared.RadioTallied.{RadioTallied}
+use Rattle.tally.specs.declared.Tallied.{Tallied}
 
 -- radios are numbered 0 to 63
 abbrev pub radio_count : ℕ
@@ -36,9 +36,9 @@ tallies_counted radio tallies r =
 -- ---- the promise of a call for a radio: answer, all tallies, and the lent slices afterwards
 
 pub record RadioDecode (radios : Radios) (radio : ℕ) (s : Settings) (mask : List ℕ) (llr : List ℤ)
-    (before after : Slices) (r : RadioTallied) : Type 0 where
+    (before after : Slices) (r : Tallied Radios) : Type 0 where
   pub answer : result_of r.outcome
       ≡ answer_by (radio_call_number radio radios.tallies) (decode_result s mask llr before)
-  pub tallies-are : r.radios.tallies ≡ tallies_counted radio radios.tallies (decode_result s mask llr before)
+  pub tallies-are : r.tally.tallies ≡ tallies_counted radio radios.tallies (decode_result s mask llr before)
   pub slices : after
       ≡ unless_refused (radio_call_number radio radios.tallies) (decode_slices s mask llr before) before

@@ -9,9 +9,8 @@ ghost use Rattle.radios.specs.Radios.{radio_count, tally_of, RadioDecode};
 ghost use Rattle.radios.specs.Runs.{no_blocks};
 
 use calls::Refusal;
-use decoder::Outcome;
 use settings::Settings;
-use tally::Tally;
+use tally::{Tallied, Tally};
 
 // How many radios there are, numbered from 0.
 pub const RADIOS: usize = 64;
@@ -20,13 +19,6 @@ pub const RADIOS: usize = 64;
 #[derive(Clone, Copy)]
 pub struct Radios {
     pub tallies: [Tally; RADIOS],
-}
-
-// What a call for a radio hands back.
-#[derive(Clone, Copy)]
-pub struct RadioTallied {
-    pub radios: Radios,
-    pub outcome: Outcome,
 }
 
 // Whether there is such a radio; 16 where there isn't.
@@ -76,7 +68,7 @@ impl Radios {
         coded_soft: &mut [i16],
         coded_mark: &mut [u8],
         work: &mut [i16],
-    ) -> RadioTallied
+    ) -> Tallied<Radios>
         ensures { RadioDecode self radio settings mask.now llr.now
             (slices soft.old mark.old
             coded_soft.old coded_mark.old work.old)
@@ -85,18 +77,18 @@ impl Radios {
             result }
     {
         if !is_radio(radio) {
-            return RadioTallied {
-                radios: self,
-                outcome: Outcome::Refused(Refusal::RadioNumber),
+            return Tallied {
+                tally: self,
+                outcome: Err(Refusal::RadioNumber),
             };
         }
         let at = radio as usize;
-        let tallied = self.tally_of(at).decode(
+        let Tallied { tally, outcome } = self.tally_of(at).decode(
             settings, mask, llr, soft, mark, coded_soft, coded_mark, work,
         );
-        let counts = tallied.tally;
-        let outcome = tallied.outcome;
-        let radios = self.with_tally(at, counts);
-        RadioTallied { radios, outcome }
+        Tallied {
+            tally: self.with_tally(at, tally),
+            outcome,
+        }
     }
 }

@@ -2,8 +2,7 @@
 use Rattle.std.specs.Prelude.{ℕ, List, ℤ}
 use Rattle.settings.specs.declared.Settings.{Settings}
 use Rattle.settings.specs.Slices.{Slices}
-use Rattle.decoder.specs.declared.Outcome.{Outcome}
-use Rattle.decoder.specs.Decoder.{result_of, Decoded}
+use Rattle.decoder.specs.Decoder.{Outcome, result_of, Decoded}
 use Rattle.decoder.specs.ResultLaws.{DecoderAnswer, decoder-answer}
 
 module _ (s : Settings) (mask : List ℕ) (llr : List ℤ) (before : Slices) where

@@ -23,7 +23,7 @@ old_decoded c =
 
 -- a call with this tally is answered as the decoder answers it, its answer is counted, its slices are written; and the
 -- tally that it hands back is accepted by the next call, unless it has 1,000,000 blocks
-pub record GoesOn (t : Tally) (c : Call) (after : Slices) (r : Tallied) : Type 0 where
+pub record GoesOn (t : Tally) (c : Call) (after : Slices) (r : Tallied Tally) : Type 0 where
   pub answer : result_of r.outcome ≡ decoded c
   pub tally-is : r.tally ≡ counted t (decoded c)
   pub slices : after ≡ decode_slices c.settings c.mask c.llr c.slices

@@ -38,7 +38,7 @@ all-count (c ∷ calls) =
 
 module _ (t : Tally) (old : old_tally_number t ≡ 0) where
   -- whatever a call with an old tally hands back, it counts in it
-  pub old-tally-goes-on : (c : Call) (after : Slices) (r : Tallied)
+  pub old-tally-goes-on : (c : Call) (after : Slices) (r : Tallied Tally)
       → TalliedDecode t c.settings c.mask c.llr c.slices after r → GoesOn t c after r
   old-tally-goes-on c after r d =
       let accepted : tally_number t ≡ 0 = old in

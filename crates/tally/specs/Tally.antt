@@ -62,7 +62,7 @@ tally_by (suc number) t r = t
 -- ---- the promise of a tallied call: answer, tally, and the lent slices afterwards
 
 pub record TalliedDecode (t : Tally) (s : Settings) (mask : List ℕ) (llr : List ℤ) (before after : Slices)
-    (r : Tallied) : Type 0 where
+    (r : Tallied Tally) : Type 0 where
   pub answer : result_of r.outcome ≡ answer_by (tally_number t) (decode_result s mask llr before)
   pub tally-is : r.tally ≡ tally_by (tally_number t) t (decode_result s mask llr before)
   pub slices : after ≡ unless_refused (tally_number t) (decode_slices s mask llr before) before

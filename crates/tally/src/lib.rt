@@ -4,6 +4,7 @@
 #![tactic(auto)]
 
 ghost use Rattle.std.specs.Prelude.{◌≡◌};
+ghost use Rattle.calls.specs.Numbers.{number_of};
 ghost use Rattle.decoder.specs.Decoder.{result_of};
 ghost use Rattle.settings.specs.Slices.{slices};
 ghost use Rattle.tally.specs.Tally.{consistent, tally_number, counted, TalliedDecode};
@@ -13,7 +14,7 @@ ghost use Rattle.decoder.specs.ResultLaws.{DecoderAnswer};
 ghost use Rattle.tally.specs.TallyLaws.{Usable};
 
 use calls::Refusal;
-use decoder::{Outcome, Reason};
+use decoder::{Ending, Reason};
 use settings::Settings;
 
 // With so many blocks a tally is full and takes no more; its own test allows so many iterations for each ending.
@@ -22,7 +23,7 @@ pub const MOST_BLOCKS: u32 = 1000000;
 const MOST_ITERATIONS: u64 = 200;
 
 // Blocks, endings by each reason, refusals and iterations so far.
-#[derive(Clone, Copy)]
+#[derive(Clone, Copy, Default)]
 pub struct Tally {
     pub blocks: u32,
     pub by_criterion: u32,
@@ -31,11 +32,11 @@ pub struct Tally {
     pub iterations: u32,
 }
 
-// What a tallied call hands back.
+// What a call that counts its answer hands back: the tally (for a call for a radio the tallies of all) and the answer.
 #[derive(Clone, Copy)]
-pub struct Tallied {
-    pub tally: Tally,
-    pub outcome: Outcome,
+pub struct Tallied<T> {
+    pub tally: T,
+    pub outcome: Result<Ending, Refusal>,
 }
 
 impl Tally {
@@ -43,13 +44,7 @@ impl Tally {
     pub fn new() -> Tally
         ensures { result ≡ none }
     {
-        Tally {
-            blocks: 0,
-            by_criterion: 0,
-            by_limit: 0,
-            refusals: 0,
-            iterations: 0,
-        }
+        Tally::default()
     }
 
     // Whether its numbers can be counts. At 64 bits no sum of its fields wraps, whatever they hold.
@@ -60,59 +55,46 @@ impl Tally {
         let endings = self.by_criterion as u64 + self.by_limit as u64;
         let refusals = self.refusals as u64;
         let iterations = self.iterations as u64;
-        if blocks != endings + refusals {
-            return false;
-        }
-        if iterations < endings {
-            return false;
-        }
-        if MOST_ITERATIONS * endings < iterations {
-            return false;
-        }
-        true
+        blocks == endings + refusals && (endings..=MOST_ITERATIONS * endings).contains(&iterations)
     }
 
-    // 15 where the tally is refused, else 0.
-    fn number(self) -> u32
-        ensures { result ≡ tally_number self }
+    // 15 where the tally is refused.
+    fn refusal(self) -> Result<(), Refusal>
+        ensures { number_of result ≡ tally_number self }
     {
-        if MOST_BLOCKS <= self.blocks {
-            return 15;
+        if MOST_BLOCKS <= self.blocks || !self.consistent() {
+            return Err(Refusal::UnusableTally);
         }
-        if !self.consistent() {
-            return 15;
-        }
-        0
+        Ok(())
     }
 
     // The tally of one block. A refusal has no iterations.
-    fn single(outcome: Outcome) -> Tally
+    fn single(outcome: Result<Ending, Refusal>) -> Tally
         ensures { result ≡ single (result_of outcome) }
     {
         match outcome {
-            Outcome::Refused(_) => Tally {
+            Err(_) => Tally {
                 blocks: 1,
-                by_criterion: 0,
-                by_limit: 0,
                 refusals: 1,
-                iterations: 0,
+                ..Tally::new()
             },
-            Outcome::Ended(iterations, reason) => match reason {
-                Reason::Criterion => Tally {
+            Ok(Ending { iterations, reason }) => {
+                let ended = Tally {
                     blocks: 1,
-                    by_criterion: 1,
-                    by_limit: 0,
-                    refusals: 0,
                     iterations,
-                },
-                Reason::Limit => Tally {
-                    blocks: 1,
-                    by_criterion: 0,
-                    by_limit: 1,
-                    refusals: 0,
-                    iterations,
-                },
-            },
+                    ..Tally::new()
+                };
+                match reason {
+                    Reason::Criterion => Tally {
+                        by_criterion: 1,
+                        ..ended
+                    },
+                    Reason::Limit => Tally {
+                        by_limit: 1,
+                        ..ended
+                    },
+                }
+            }
         }
     }
 
@@ -131,7 +113,7 @@ impl Tally {
     }
 
     // The tally with one answer of the decoder counted.
-    fn counted(self, outcome: Outcome) -> Tally
+    fn counted(self, outcome: Result<Ending, Refusal>) -> Tally
         requires { (tally_number self ≡ 0) × DecoderAnswer (result_of outcome) }
         ensures { result ≡ counted self (result_of outcome) }
     {
@@ -150,7 +132,7 @@ impl Tally {
         coded_soft: &mut [i16],
         coded_mark: &mut [u8],
         work: &mut [i16],
-    ) -> Tallied
+    ) -> Tallied<Tally>
         ensures { TalliedDecode self settings mask.now llr.now
             (slices soft.old mark.old
             coded_soft.old coded_mark.old work.old)
@@ -158,16 +140,18 @@ impl Tally {
             coded_soft.new coded_mark.new work.new)
             result }
     {
-        if self.number() != 0 {
-            return Tallied {
+        match self.refusal() {
+            Err(refusal) => Tallied {
                 tally: self,
-                outcome: Outcome::Refused(Refusal::UnusableTally),
-            };
+                outcome: Err(refusal),
+            },
+            Ok(()) => {
+                let outcome = decoder::decode(
+                    settings, mask, llr, soft, mark, coded_soft, coded_mark, work,
+                );
+                let tally = self.counted(outcome);
+                Tallied { tally, outcome }
+            }
         }
-        let outcome = decoder::decode(
-            settings, mask, llr, soft, mark, coded_soft, coded_mark, work,
-        );
-        let tally = self.counted(outcome);
-        Tallied { tally, outcome }
     }
 }

@@ -7,24 +7,22 @@ use Rattle.decoder.proofs.run.Goals as goal
 
 pub step-progress-requires-clause-workspace_valid : goal.step-progress-requires-clause-workspace_valid
 step-progress-requires-clause-workspace_valid c =
-    (run-valid c.loop-iterations.invariant.1.goes_on c.requires.workspace_valid)
+    (run-valid c.loop-done.invariant.goes_on c.requires.workspace_valid)
 
 pub step-progress-requires-clause-operand_le_largest_ceiling :
     goal.step-progress-requires-clause-operand_le_largest_ceiling
 step-progress-requires-clause-operand_le_largest_ceiling c =
-    (c.requires.operand_le_largest_ceiling.0, run-memory c.loop-iterations.invariant.1.goes_on (omega arith))
+    (c.requires.operand_le_largest_ceiling.0, run-memory c.loop-done.invariant.goes_on (omega arith))
 
-pub returns-then-holds : goal.returns-then-holds
-returns-then-holds c =
-    found c.loop-iterations.invariant.1 c.step-progress.ensures c.requires.outputs_fit c.if-holds.true (omega arith) _
-    (add-one c.loop-iterations.iterations)
+pub returns-then-progress : goal.returns-then-progress
+returns-then-progress c =
+    found c.loop-done.invariant c.step-progress.ensures c.requires.outputs_fit c.if-progress.true (omega arith) _
+    (add-one c.loop-done.done)
 
-pub loop-iterations-preserved : goal.loop-iterations-preserved
-loop-iterations-preserved c = (
-  omega arith,
-  next-step c.loop-iterations.invariant.1 c.step-progress.ensures c.requires.outputs_fit c.if-holds.false _
-      (add-one c.loop-iterations.iterations),
-)
+pub loop-done-preserved : goal.loop-done-preserved
+loop-done-preserved c =
+    next-step c.loop-done.invariant c.step-progress.ensures c.requires.outputs_fit c.if-progress.false _
+    (add-one c.loop-done.done)
 
 pub returns : goal.returns
-returns c = steps-ended _ c.loop-iterations.invariant.1 (omega arith) (omega arith)
+returns c = steps-ended _ c.loop-done.invariant (omega arith) (omega arith) c.limit_of.ensures
