@@ -1,7 +1,6 @@
 -- Request 2026-05: what a dispatcher's list of tallies means. Definitions only.
-use Rattle.std.specs.Prelude.{ℕ, zero, suc, ◌-◌, ◌≡◌, cond, List, [], ◌∷◌, leb, length, set}
-use Rattle.calls.specs.declared.Answer.{Answer}
-use Rattle.calls.specs.declared.Answer.TheVariants.{Done, Refused}
+use Rattle.std.specs.Prelude.{ℕ, zero, suc, ◌-◌, ◌≡◌, cond, List, [], ◌∷◌, leb, length, set, Result, Ok, Err}
+use Rattle.calls.specs.declared.Refusal.{Refusal}
 use Rattle.calls.specs.Numbers.{refusal_number, check, first_refusal}
 use Rattle.calls.specs.Texts.{bytes}
 use Rattle.tally.specs.declared.Tally.{Tally}
@@ -11,6 +10,7 @@ use Rattle.radios.specs.Runs.{no_blocks}
 use Rattle.scan.specs.Reading.{Reading, found, bind, if_found}
 use Rattle.scan.specs.Lines.{item, literal}
 use Rattle.radio_list.specs.declared.RadioList.{RadioList}
+pub use Rattle.radio_list.specs.declared.Entry.{Entry}
 
 -- the most bytes of an accepted list
 abbrev pub longest_list : ℕ
@@ -20,10 +20,6 @@ abbrev pub list_names : List ℕ
 list_names = bytes "radio blocks criterion limit refusals iterations\n"
 
 -- ---- the line of a radio
-
-pub record Entry : Type 0 where
-  pub radio : ℕ
-  pub tally : Tally
 
 -- its six numbers, in the order of their names
 unfoldable pub radio_line : List ℕ → Reading Entry
@@ -106,9 +102,9 @@ tallies_listed (refused number) = no_blocks
 tallies_listed (listed tallies) = tallies
 
 -- what an answer says of a text, with the tallies beside it
-abbrev pub meant : Answer → List Tally → Listed
-meant Done tallies = listed tallies
-meant (Refused refusal) tallies = refused (refusal_number refusal)
+abbrev pub meant : Result Unit Refusal → List Tally → Listed
+meant (Ok accepted) tallies = listed tallies
+meant (Err refusal) tallies = refused (refusal_number refusal)
 
 -- after a refusal the tallies are five zeros for each radio
 pub record ListRead (means : Listed) (r : RadioList) : Type 0 where

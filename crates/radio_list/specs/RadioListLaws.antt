@@ -1,7 +1,9 @@
 -- Laws of the list: what a line that passes has, how the lines go on, and what every tally of an accepted list has.
 use Prim.Native.Nat.{ℕ, zero, suc, ◌+◌, ◌-◌, ◌<◌, ◌≤◌}
-use Rattle.std.specs.Prelude.{◌≡◌, refl, Bool, true, false, cond, List, [], ◌∷◌, ltb, leb, length, drop, set}
-use Rattle.std.proofs.Common.{ap, ◌∙◌, add-one, ltb-true, leb-true, le-leb, length-drop, drop_of_length-le}
+use Rattle.std.proofs.Common.{length-drop}
+use Rattle.std.specs.Prelude.{drop}
+use Rattle.std.specs.Prelude.{◌≡◌, refl, Bool, true, false, cond, List, [], ◌∷◌, ltb, leb, length, set}
+use Rattle.std.proofs.Common.{ap, ◌∙◌, add-one, ltb-true, leb-true, le-leb}
 use native.Mathlib.Omega.{arith}
 use Rattle.std.proofs.lemmas.Bool.{lt-leb}
 use Rattle.calls.specs.NumberLaws.{check-passed, first-refusal-passed}
@@ -105,35 +107,54 @@ at-end-more : (s : List ℕ) (end more : Listed) → 0 < length s → at_end s e
 at-end-more [] end more h = absurd (omega arith)
 at-end-more (b ∷ s) end more h = refl
 
-module _ (least : ℕ) (tallies : List Tally) (t : List ℕ) (p : ℕ) (low : least ≤ radio_count) where
-  lines_step : lines_from least tallies (drop p t)
-      ≡ at_end (drop p t) (listed tallies)
-      (go_on (checked_line least (drop p t))
+module _ (least : ℕ) (tallies : List Tally) (t : List ℕ) (low : least ≤ radio_count) where
+  lines_step : lines_from least tallies t
+      ≡ at_end t (listed tallies)
+      (go_on (checked_line least t)
       (λ e u. read_lines (radio_count - least) (suc e.radio) (set tallies e.radio e.tally) u))
   unfolding read_lines
   lines_step = let e : suc radio_count - least ≡ suc (radio_count - least) = omega arith in rw e
 
-  pub lines_end : length t ≤ p → lines_from least tallies (drop p t) ≡ listed tallies
-  lines_end h = lines_step ∙ rw (drop_of_length-le t h)
-
-  module _ (inside : p < length t) where
-    lines_more : lines_from least tallies (drop p t)
-        ≡ go_on (checked_line least (drop p t))
+  module _ (more : 0 < length t) where
+    lines_more : lines_from least tallies t
+        ≡ go_on (checked_line least t)
         (λ e u. read_lines (radio_count - least) (suc e.radio) (set tallies e.radio e.tally) u)
-    lines_more = lines_step ∙ at-end-more (drop p t) (listed tallies) _ (rw length-drop (omega arith))
+    lines_more = lines_step ∙ at-end-more t (listed tallies) _ more
 
-    pub lines-failed : (number : ℕ) → checked_line least (drop p t) ≡ failed number
-        → lines_from least tallies (drop p t) ≡ refused number
-    lines-failed number h = lines_more ∙ rw h
+    pub lines-refused : (number : ℕ) → checked_line least t ≡ failed number
+        → lines_from least tallies t ≡ refused number
+    lines-refused number h = lines_more ∙ rw h
 
-    pub lines_next : (e : Entry) (u : List ℕ) → checked_line least (drop p t) ≡ passed e u
-        → lines_from least tallies (drop p t) ≡ lines_from (e.radio + 1) (set tallies e.radio e.tally) u
-    lines_next e u h =
-        let f = line-passes least (drop p t) e u h in
+    pub lines-go-on : (e : Entry) (u : List ℕ) → checked_line least t ≡ passed e u
+        → lines_from least tallies t ≡ lines_from (e.radio + 1) (set tallies e.radio e.tally) u
+    lines-go-on e u h =
+        let f = line-passes least t e u h in
         lines_more
         ∙ rw (h, add-one e.radio)
         (lines-enough (radio_count - least) (suc radio_count - suc e.radio) (suc e.radio)
         (set tallies e.radio e.tally) u (omega arith) (omega arith) (omega arith))
+
+pub lines-done : (least : ℕ) (tallies : List Tally) (t : List ℕ) → least ≤ radio_count → length t ≡ 0
+    → lines_from least tallies t ≡ listed tallies
+lines-done least tallies [] low h = lines_step least tallies [] low
+lines-done least tallies (b ∷ t) low h = absurd (omega arith)
+
+-- the same at the text from a position on
+module _ (least : ℕ) (tallies : List Tally) (t : List ℕ) (p : ℕ) (low : least ≤ radio_count) where
+  pub lines_end : length t ≤ p → lines_from least tallies (drop p t) ≡ listed tallies
+  lines_end h = lines-done least tallies (drop p t) low (rw length-drop (omega arith))
+
+  module _ (inside : p < length t) where
+    more : 0 < length (drop p t)
+    more = rw length-drop (omega arith)
+
+    pub lines-failed : (number : ℕ) → checked_line least (drop p t) ≡ failed number
+        → lines_from least tallies (drop p t) ≡ refused number
+    lines-failed number h = lines-refused least tallies (drop p t) low more number h
+
+    pub lines_next : (e : Entry) (u : List ℕ) → checked_line least (drop p t) ≡ passed e u
+        → lines_from least tallies (drop p t) ≡ lines_from (e.radio + 1) (set tallies e.radio e.tally) u
+    lines_next e u h = lines-go-on least tallies (drop p t) low more e u h
 
 -- ---- the whole text
 

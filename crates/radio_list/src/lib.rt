@@ -3,15 +3,15 @@
 // string: all 64 tallies, with five zeros for a radio that is not listed, or the number of a refusal.
 #![tactic(auto)]
 
-ghost use Rattle.std.specs.Prelude.{◌≡◌, ◌≤◌, length, drop};
-ghost use Rattle.calls.specs.Numbers.{refusal_number};
+ghost use Rattle.std.specs.Prelude.{◌≡◌, ◌<◌, ◌≤◌, IfOk};
+ghost use Rattle.radios.specs.Radios.{radio_count};
 ghost use Rattle.radios.specs.Runs.{no_blocks};
-ghost use Rattle.radio_list.specs.RadioList.{radio_line, checked_line, lines_from, refused, meaning, ListRead};
-ghost use Rattle.radio_list.specs.Private.{line_read, LineWithin, checked_read, CheckedWithin};
+ghost use Rattle.scan.specs.Answers.{reading_of};
+ghost use Rattle.radio_list.specs.RadioList.{radio_line, checked_line, lines_from, meaning, ListRead};
+ghost use Rattle.radio_list.specs.Private.{checked_of, listed_of};
 
-use calls::{Answer, Refusal};
+use calls::Refusal;
 use radios::Radios;
-use scan::{Item, Next};
 use tally::{MOST_BLOCKS, Tally};
 
 // The most bytes of an accepted list.
@@ -21,55 +21,27 @@ pub const LONGEST_LIST: usize = 32768;
 #[derive(Clone, Copy)]
 pub struct RadioList {
     pub radios: Radios,
-    pub answer: Answer,
+    pub answer: Result<(), Refusal>,
 }
 
-// The numbers of a line, and the position behind it.
+// What the line of a radio says.
 #[derive(Clone, Copy)]
-enum Line {
-    Found {
-        radio: u32,
-        tally: Tally,
-        next: usize,
-    },
-    Malformed,
-}
-
-// A line that passes its tests, or what refuses it.
-#[derive(Clone, Copy)]
-enum Checked {
-    Passed {
-        radio: u32,
-        tally: Tally,
-        next: usize,
-    },
-    Failed(Refusal),
+struct Entry {
+    radio: u32,
+    tally: Tally,
 }
 
 // The six numbers of a line.
-fn read_line(text: &[u8], at: usize) -> Line
-    requires { at ≤ length text.now }
-    ensures text_value { radio_line (drop at text.now) ≡ line_read text.now result }
-    ensures line_within { LineWithin text.now result }
+#[tactic(auto, unfolding(crate::specs::RadioList::radio_line))]
+fn read_line(text: &[u8]) -> Option<(Entry, &[u8])>
+    ensures { radio_line text.now ≡ reading_of result }
 {
-    let Item::Count(radio, second) = scan::read_item(text, at, 5) else {
-        return Line::Malformed;
-    };
-    let Item::Count(blocks, third) = scan::read_item(text, second, 4) else {
-        return Line::Malformed;
-    };
-    let Item::Count(by_criterion, fourth) = scan::read_item(text, third, 3) else {
-        return Line::Malformed;
-    };
-    let Item::Count(by_limit, fifth) = scan::read_item(text, fourth, 2) else {
-        return Line::Malformed;
-    };
-    let Item::Count(refusals, sixth) = scan::read_item(text, fifth, 1) else {
-        return Line::Malformed;
-    };
-    let Item::Count(iterations, next) = scan::read_item(text, sixth, 0) else {
-        return Line::Malformed;
-    };
+    let (radio, text) = scan::read_item(text, 5)?;
+    let (blocks, text) = scan::read_item(text, 4)?;
+    let (by_criterion, text) = scan::read_item(text, 3)?;
+    let (by_limit, text) = scan::read_item(text, 2)?;
+    let (refusals, text) = scan::read_item(text, 1)?;
+    let (iterations, text) = scan::read_item(text, 0)?;
     let tally = Tally {
         blocks,
         by_criterion,
@@ -77,82 +49,68 @@ fn read_line(text: &[u8], at: usize) -> Line
         refusals,
         iterations,
     };
-    Line::Found { radio, tally, next }
+    Some((Entry { radio, tally }, text))
 }
 
 // A line where the radio must be `least` or above.
-fn check_line(text: &[u8], at: usize, least: u32) -> Checked
-    requires { at ≤ length text.now }
-    ensures text_value { checked_line least (drop at text.now) ≡ checked_read text.now result }
-    ensures checked_within { CheckedWithin text.now result }
+#[tactic(auto, unfolding(crate::specs::RadioList::checked_line))]
+fn check_line(text: &[u8], least: u32) -> Result<(Entry, &[u8]), Refusal>
+    ensures value { checked_line least text.now ≡ checked_of result }
+    ensures within { IfOk result (λ p. (least ≤ p.0.radio) × (p.0.radio < radio_count)) }
 {
-    let Line::Found { radio, tally, next } = read_line(text, at) else {
-        return Checked::Failed(Refusal::MalformedText);
-    };
-    if !radios::is_radio(radio) {
-        return Checked::Failed(Refusal::RadioNumber);
+    let (entry, rest) = read_line(text).ok_or(Refusal::MalformedText)?;
+    if !radios::is_radio(entry.radio) {
+        return Err(Refusal::RadioNumber);
     }
-    if radio < least {
-        return Checked::Failed(Refusal::MalformedText);
+    if entry.radio < least {
+        return Err(Refusal::MalformedText);
     }
-    if MOST_BLOCKS < tally.blocks {
-        return Checked::Failed(Refusal::UnusableTally);
+    if MOST_BLOCKS < entry.tally.blocks || !entry.tally.consistent() {
+        return Err(Refusal::UnusableTally);
     }
-    if !tally.consistent() {
-        return Checked::Failed(Refusal::UnusableTally);
-    }
-    Checked::Passed { radio, tally, next }
+    Ok((entry, rest))
 }
 
-// What a refused text leaves.
-fn refused(refusal: Refusal) -> RadioList
-    ensures { ListRead (refused (refusal_number refusal)) result }
-{
-    RadioList {
-        radios: Radios::new(),
-        answer: Answer::Refused(refusal),
-    }
-}
-
-// The lines behind the first. As radios rise from line to line, 64 lines at most pass.
-fn read_lines(text: &[u8], at: usize) -> RadioList
-    requires { at ≤ length text.now }
-    ensures { ListRead (lines_from 0 no_blocks (drop at text.now)) result }
+// The lines after the first. As radios rise from line to line, 64 lines at most pass.
+fn read_lines(text: &[u8]) -> Result<Radios, Refusal>
+    ensures { lines_from 0 no_blocks text.now ≡ listed_of result }
 {
     let mut radios = Radios::new();
-    let mut least: u32 = 0;
-    let mut p = at;
-    while p < text.len() {
-        match check_line(text, p, least) {
-            Checked::Failed(refusal) => return refused(refusal),
-            Checked::Passed { radio, tally, next } => {
-                let own = radio as usize;
-                radios.tallies[own] = tally;
-                least = radio + 1;
-                p = next;
-            }
-        }
+    let mut least = 0;
+    let mut rest = text;
+    while !rest.is_empty() {
+        let (entry, after) = check_line(rest, least)?;
+        radios.tallies[entry.radio as usize] = entry.tally;
+        least = entry.radio + 1;
+        rest = after;
     }
-    RadioList {
-        radios,
-        answer: Answer::Done,
+    Ok(radios)
+}
+
+// The tallies that a text lists.
+fn listed(text: &[u8]) -> Result<Radios, Refusal>
+    ensures { meaning text.now ≡ listed_of result }
+{
+    if LONGEST_LIST < text.len() {
+        return Err(Refusal::MalformedText);
     }
+    let names = b"radio blocks criterion limit refusals iterations\n";
+    let lines = scan::literal(text, names).ok_or(Refusal::MalformedText)?;
+    read_lines(lines)
 }
 
 // The tallies of a text.
 pub fn read(text: &[u8]) -> RadioList
     ensures { ListRead (meaning text.now) result }
 {
-    if LONGEST_LIST < text.len() {
-        return refused(Refusal::MalformedText);
+    match listed(text) {
+        Ok(radios) => RadioList {
+            radios,
+            answer: Ok(()),
+        },
+        Err(refusal) => RadioList {
+            radios: Radios::new(),
+            answer: Err(refusal),
+        },
     }
-    let names = scan::literal(
-        text,
-        0,
-        b"radio blocks criterion limit refusals iterations\n",
-    );
-    let Next::At(first) = names else {
-        return refused(Refusal::MalformedText);
-    };
-    read_lines(text, first)
 }

@@ -1,6 +1,6 @@
 -- Document 01, "The report's text": what an input means, in the order of the section's sentences. Definitions only.
 use Rattle.std.specs.Prelude.{ℕ, zero, suc, ◌^◌, min, ◌≡◌, cond, List, [], ◌∷◌, leb, eqb, ℤ, pos, negsuc, nat_abs}
-use Rattle.std.specs.Prelude.{length, get_or, take}
+use Rattle.std.specs.Prelude.{length, get_or, take, Result, Ok, Err}
 use Rattle.calls.specs.Bounds.{largest_m, most_positions, most_workspace}
 use Rattle.calls.specs.LentMemory.{written_over}
 use Rattle.calls.specs.Numbers.{between, refusal_number}
@@ -11,8 +11,8 @@ use Rattle.settings.specs.Settings.{decode_number}
 use Rattle.scan.specs.Reading.{Reading, found, malformed, bind}
 use Rattle.scan.specs.Lines.{line, literal}
 use Rattle.calls.specs.Texts.{bytes}
-use Rattle.report_input.specs.declared.Input.{Input}
-use Rattle.report_input.specs.declared.Input.TheVariants.{Accepted, Refused}
+use Rattle.calls.specs.declared.Refusal.{Refusal}
+pub use Rattle.report_input.specs.declared.PositionInput.{PositionInput}
 use Rattle.report_input.specs.declared.Room.{Room}
 
 -- ---- constants
@@ -79,10 +79,6 @@ mask_value z = min (unsigned z) outside_mask
 
 abbrev pub llr_value : ℤ → ℤ
 llr_value z = flipped (is_negative z) (pos (min (nat_abs z) outside_llr))
-
-pub record PositionInput : Type 0 where
-  pub frozen : ℕ
-  pub llr : ℤ
 
 -- the line of position p
 unfoldable pub read_position : ℕ → List ℕ → Reading PositionInput
@@ -181,9 +177,9 @@ abbrev pub read_answer : Meaning → ReadAnswer
 read_answer (refused number) = rejected number
 read_answer (block s b) = accepted s
 
-abbrev pub answer_of : Input → ReadAnswer
-answer_of (Accepted s) = accepted s
-answer_of (Refused r) = rejected (refusal_number r)
+abbrev pub answer_of : Result Settings Refusal → ReadAnswer
+answer_of (Ok s) = accepted s
+answer_of (Err r) = rejected (refusal_number r)
 
 -- a block in the first elements, the old contents behind it
 abbrev pub block_over : Block → Block → Block
@@ -198,6 +194,6 @@ abbrev pub room_of : Block → Room
 room_of lent = record { mask = length lent.mask; llr = length lent.llr }
 
 -- `before` and `after` are the contents of the lent slices
-pub record InputRead (means : Meaning) (before after : Block) (r : Input) : Type 0 where
+pub record InputRead (means : Meaning) (before after : Block) (r : Result Settings Refusal) : Type 0 where
   pub answer : answer_of r ≡ read_answer means
   pub after_is : after ≡ block_after means before

@@ -6,15 +6,16 @@ use Rattle.std.proofs.Common.{ltb-false, drop_of_length-le, length-take, take-su
 use Rattle.std.proofs.Common.{take-take, take_all}
 use Rattle.std.proofs.Math.Bool.{true, false}
 use Rattle.std.proofs.lemmas.Bool.{lt-leb}
-use Rattle.std.proofs.lemmas.List.Edits.{sets}
 use Rattle.calls.specs.Bounds.{largest_m}
-use Rattle.calls.specs.LentMemoryLaws.{written-sets}
 use Rattle.calls.specs.declared.Refusal.{Refusal}
 use Rattle.calls.specs.Numbers.{between, refusal_number}
 use Rattle.calls.specs.NumberLaws.{refusal-positive}
 use Rattle.settings.specs.declared.Settings.{Settings}
 use Rattle.settings.specs.SettingsLaws.{accepted}
-use Rattle.scan.specs.Reading.{Reading, found, malformed, bind, if_found}
+use Rattle.scan.specs.Reading.{Reading, found, malformed, bind}
+use Rattle.scan.specs.Answers.{read_to}
+use Rattle.std.specs.Borrow.{Bor}
+use Rattle.std.specs.Prelude.{Option, Some, None, Ok, Err}
 use Rattle.report_input.specs.Input.{
   longest_text,
   value_at,
@@ -48,9 +49,6 @@ use Rattle.report_input.specs.Input.{
   InputRead,
 }
 use Rattle.scan.specs.Lines.{line, literal}
-use Rattle.scan.specs.ScanLaws.{bind-found}
-use Rattle.report_input.specs.Private.{positions_stored}
-use Rattle.report_input.specs.declared.Input.TheVariants.{Accepted, Refused}
 use Rattle.report_input.specs.declared.Room.{Room}
 
 -- ---- one line
@@ -147,67 +145,6 @@ pub read-positions-end : (n : ℕ) (mask : List ℕ) (llr : List ℤ) (s : List 
     → prefixed mask llr (read_positions (n - n) n s) ≡ found (block_of mask llr) s
 unfolding read_positions
 read-positions-end n mask llr s = let left : n - n ≡ 0 = omega arith in rw (left, append-nil mask, append-nil llr)
-
--- ---- what is stored of them
-
--- a block stored one after another from element i on
-abbrev pub stored_from : ℕ → Block → Block → Block
-stored_from i b old = block_of (sets old.mask i b.mask) (sets old.llr i b.llr)
-
--- where i of n lines are stored: one more
-pub stored-positions-next : (n i : ℕ) (s t mask : List ℕ) (llr : List ℤ) (r : PositionInput) → i < n
-    → read_position i s ≡ found r t
-    → stored_from (i + 1) (positions_stored (n - (i + 1)) (i + 1) t)
-    (block_of (set mask i r.frozen) (set llr i r.llr))
-    ≡ stored_from i (positions_stored (n - i) i s) (block_of mask llr)
-unfolding positions_stored
-stored-positions-next n i s t mask llr r h e =
-    let left : n - i ≡ suc (n - suc i) = omega arith in rw (left, e, add-one i)
-
--- no line of the next position
-pub stored-positions-stop : (n i : ℕ) (s : List ℕ) → i < n → read_position i s ≡ malformed
-    → positions_stored (n - i) i s ≡ block_of [] []
-unfolding positions_stored
-stored-positions-stop n i s h e = let left : n - i ≡ suc (n - suc i) = omega arith in rw (left, e)
-
--- no line left
-pub stored-positions-end : (n : ℕ) (s : List ℕ) → positions_stored (n - n) n s ≡ block_of [] []
-unfolding positions_stored
-stored-positions-end n s = let left : n - n ≡ 0 = omega arith in rw left
-
--- at most n of n
-stored-positions-short : (n p : ℕ) (s : List ℕ) →
-    (length (positions_stored n p s).mask ≤ n) × (length (positions_stored n p s).llr ≤ n)
-unfolding positions_stored
-stored-positions-short zero p s = (omega arith, omega arith)
-stored-positions-short (suc n) p s = first (read_position p s) (λ u. stored-positions-short n (suc p) u)
-  where
-    first : (R : Reading PositionInput)
-        → ((u : List ℕ)
-        → (length (positions_stored n (suc p) u).mask ≤ n) × (length (positions_stored n (suc p) u).llr ≤ n)) →
-        let b = if_found R (block_of [] []) (λ r u. above r (positions_stored n (suc p) u)) in
-        (length b.mask ≤ suc n) × (length b.llr ≤ suc n)
-    first malformed short = (omega arith, omega arith)
-    first (found r u) short = (omega (arith, (short u).0), omega (arith, (short u).1))
-
-pub stored-positions-over : (n : ℕ) (s : List ℕ) (old : Block) → n ≤ length old.mask → n ≤ length old.llr
-    → stored_from 0 (positions_stored n 0 s) old ≡ block_over (positions_stored n 0 s) old
-stored-positions-over n s old mask-long llr-long =
-    let b = positions_stored n 0 s in
-    let short = stored-positions-short n 0 s in
-    ap₂ block_of (written-sets b.mask old.mask (omega arith)) (written-sets b.llr old.llr (omega arith))
-
--- lines that were read are stored whole
-pub stored-positions : (n p : ℕ) (s : List ℕ) (b : Block) (u : List ℕ) → read_positions n p s ≡ found b u
-    → positions_stored n p s ≡ b
-unfolding read_positions positions_stored
-stored-positions zero p s b u e = cc
-stored-positions (suc n) p s b u e =
-    let (r, v, h, e₁) =
-    bind-found (read_position p s) (λ r s. bind (read_positions n (suc p) s) (λ b s. found (above r b) s)) b u e in
-    let (rest, w, g, e₂) = bind-found (read_positions n (suc p) v) (λ b s. found (above r b) s) b u e₁ in
-    let same : above r rest ≡ b = cc in
-    rw (h, stored-positions n (suc p) v rest w g) same
 
 -- ---- n lines give n mask values and n LLRs
 
@@ -362,7 +299,7 @@ module _ (room : Room) where
 -- ---- what `read` answers and leaves
 
 pub read-refused : {old : Block} {means : Meaning} (r : Refusal) → means ≡ refused (refusal_number r)
-    → InputRead means old old (Refused r)
+    → InputRead means old old (Err r)
 read-refused r e = rw e (record { answer = refl; after_is = refl })
 
 module _ (room : Room) where
@@ -374,15 +311,18 @@ module _ (room : Room) where
       → sized room (found s t) ≡ tested room s (read_positions (2 ^ s.m) 0 t)
   sized-tested s t e = rw e
 
-  pub read-accepted : (s : Settings) (u : List ℕ) (n : ℕ) {old new : Block}
-      → 0 ≡ number_in (tested room s (read_positions (2 ^ s.m) 0 u)) → n ≡ 2 ^ s.m
-      → new ≡ block_over (positions_stored n 0 u) old
-      → InputRead (tested room s (read_positions (2 ^ s.m) 0 u)) old new (Accepted s)
-  read-accepted s u n {old} none size stored =
+  -- where no number applies, the lines are read a second time as they were the first
+  pub read-again : (s : Settings) (u : List ℕ) (b : Block) (rest : Option (Bor (List ℕ))) {old new : Block} →
+      let R = read_positions (2 ^ s.m) 0 u in
+      0 ≡ number_in (tested room s R) → R ≡ read_to b rest → new ≡ block_over b old
+      → InputRead (tested room s R) old new (Ok s)
+  read-again s u b (Some rest) {old} none again stored =
       let whole = accepted-block room s (read_positions (2 ^ s.m) 0 u) none in
-      let same = ap (λ (k : ℕ). positions_stored k 0 u) size
-      ∙ stored-positions (2 ^ s.m) 0 u whole.b [] whole.read in
-      rw whole.means (record { answer = refl; after_is = stored ∙ ap (λ (b : Block). block_over b old) same })
+      let same : whole.b ≡ b = cc (whole.read, again) in
+      rw whole.means (record { answer = refl; after_is = rw same stored })
+  read-again s u b None none again stored =
+      let whole = accepted-block room s (read_positions (2 ^ s.m) 0 u) none in
+      cc (whole.read, again)
 
   pub meaning-long : (t : List ℕ) → longest_text < length t → meaning_in room t ≡ refused 14
   unfolding meaning_in

@@ -1,6 +1,6 @@
 pub mod Input
-pub mod Private
 pub mod InputLaws
+pub mod StoredPositions
 pub mod RoomLaws
 pub mod ReadLaws
 pub mod WholeNumbers

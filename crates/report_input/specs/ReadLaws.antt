@@ -25,8 +25,7 @@ use Rattle.report_input.specs.Input.{
   first_of,
 }
 use Rattle.report_input.specs.InputLaws.{Fit, Long, Means, meaning-fit}
-use Rattle.report_input.specs.declared.Input.{Input}
-use Rattle.report_input.specs.declared.Input.TheVariants.{Accepted, Refused}
+use Rattle.std.specs.Prelude.{Result, Ok, Err}
 
 -- ---- what an answer says of a meaning
 
@@ -42,15 +41,15 @@ abbrev number_answered : ReadAnswer → ℕ
 number_answered (accepted s) = 0
 number_answered (rejected number) = number
 
-module _ {old new : Block} {r : Input} where
-  pub answered-accepted : (means : Meaning) {s : Settings} → InputRead means old new r → r ≡ Accepted s
+module _ {old new : Block} {r : Result Settings Refusal} where
+  pub answered-accepted : (means : Meaning) {s : Settings} → InputRead means old new r → r ≡ Ok s
       → (b : Block) × (means ≡ block s b)
   answered-accepted (refused number) read e =
       absurd (true≢false (ap is_accepted (sym (ap answer_of e) ∙ read.answer)))
   answered-accepted (block s' b) {s} read e =
       (b, ap (λ (x : Settings). block x b) (ap (settings_answered s) (sym read.answer ∙ ap answer_of e)))
 
-  pub answered-refused : (means : Meaning) {refusal : Refusal} → InputRead means old new r → r ≡ Refused refusal
+  pub answered-refused : (means : Meaning) {refusal : Refusal} → InputRead means old new r → r ≡ Err refusal
       → means ≡ refused (refusal_number refusal)
   answered-refused (refused number) read e =
       ap (λ (v : ReadAnswer). refused (number_answered v)) (sym read.answer ∙ ap answer_of e)
@@ -64,8 +63,8 @@ pub record AcceptedText (means : Meaning) (s : Settings) (b : Block) : Type 0 wh
   pub fit : Fit s b
   pub is : means ≡ block s b
 
-module _ {old new : Block} {r : Input} where
-  of-accepted : (means : Meaning) (s : Settings) (n : ℕ) → Means means → InputRead means old new r → r ≡ Accepted s
+module _ {old new : Block} {r : Result Settings Refusal} where
+  of-accepted : (means : Meaning) (s : Settings) (n : ℕ) → Means means → InputRead means old new r → r ≡ Ok s
       → n ≡ 2 ^ s.m → AcceptedText means s (first_of n new)
   of-accepted means s n fits read e size =
       let (b, is) = answered-accepted means read e in
@@ -94,13 +93,13 @@ cleared-long = record {
   llr-long = length-replicate most_positions (pos 0);
 }
 
-module _ (t : List ℕ) {old new : Block} {r : Input} (long : Long most_positions old)
+module _ (t : List ℕ) {old new : Block} {r : Result Settings Refusal} (long : Long most_positions old)
     (read : InputRead (meaning_in (room_of old) t) old new r) where
-  pub accepted-text : {s : Settings} {n : ℕ} → r ≡ Accepted s → n ≡ 2 ^ s.m
+  pub accepted-text : {s : Settings} {n : ℕ} → r ≡ Ok s → n ≡ 2 ^ s.m
       → AcceptedText (meaning t) s (first_of n new)
   accepted-text {s} {n} e size =
       of-accepted (meaning t) s n (meaning-fit t)
       (subst (λ (means : Meaning). InputRead means old new r) (meaning-lent old t long) read) e size
 
-  pub refused-text : {refusal : Refusal} → r ≡ Refused refusal → meaning t ≡ refused (refusal_number refusal)
+  pub refused-text : {refusal : Refusal} → r ≡ Err refusal → meaning t ≡ refused (refusal_number refusal)
   refused-text e = sym (meaning-lent old t long) ∙ answered-refused (meaning_in (room_of old) t) read e

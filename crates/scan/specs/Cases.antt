@@ -5,7 +5,7 @@ use Rattle.calls.specs.Texts.{bytes}
 use Rattle.scan.specs.Reading.{Reading, found, malformed}
 use Rattle.scan.specs.Numbers.{digits, natural, number}
 use Rattle.scan.specs.Lines.{spaces, separator, line, item, literal}
-use Rattle.scan.specs.Answers.{values_stored}
+use Rattle.scan.specs.Stored.{values_stored}
 
 abbrev read : ℕ → String → Reading (List ℤ)
 read n s = line n (bytes s)

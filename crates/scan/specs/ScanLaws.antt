@@ -1,17 +1,14 @@
--- The definitions at the text from a position on, in the terms of a reader that keeps a position; and the sizes of what
--- is read.
+-- One step of each definition, in the terms of a reader that keeps the rest of the text; and the sizes of what is read.
 use Rattle.std.specs.Prelude.{ℕ, zero, suc, ◌+◌, ◌-◌, ◌*◌, ◌<◌, ◌≤◌, ◌≡◌, refl, Bool, true, false, cond, ◌&&◌, List, []}
 use Rattle.std.specs.Prelude.{◌∷◌, ◌++◌, leb, eqb, ℤ, pos, neg_ℤ, nat_abs, length, get_or, drop, take, set}
 use Rattle.std.proofs.Common.{sym, ap, ◌∙◌, true≢false, append_assoc, arith, add-one, sub-one, leb-true}
-use Rattle.std.proofs.Common.{drop_of_length-le, drop-cons, take-suc-set}
-use Rattle.std.proofs.lemmas.List.Edits.{sets}
-use Rattle.calls.specs.LentMemory.{written_over}
-use Rattle.calls.specs.LentMemoryLaws.{written-sets, written_behind}
+use Rattle.std.proofs.lemmas.Bool.Decides.{nat_tests}
+use Rattle.std.specs.Cmp.Lexicographic.{pointwise}
+use Rattle.std.proofs.Common.{take-suc-set}
 use Rattle.calls.specs.SignLaws.{size-neg}
-use Rattle.scan.specs.Reading.{Reading, found, malformed, bind, if_found, first, rest}
+use Rattle.scan.specs.Reading.{Reading, found, malformed, bind, first, rest}
 use Rattle.scan.specs.Numbers.{is_digit, digits, natural, number}
 use Rattle.scan.specs.Lines.{spaces, separator, line, item, literal}
-use Rattle.scan.specs.Answers.{values_stored}
 
 -- ---- one reading after another
 
@@ -21,30 +18,6 @@ module _ {A B : Type 0} where
       (a : A) × (s : List ℕ) × (r ≡ found a s) × (next a s ≡ found b u)
   bind-found (found a s) next b u e = (a, s, refl, e)
   bind-found malformed next b u e = let h : ◌≡◌ {A = ℕ} 0 1 = cc in absurd (omega arith)
-
--- ---- the byte at a position, and the text behind it
-
-pub first-drop : (i : ℕ) (t : List ℕ) → first (drop i t) ≡ get_or t i 0
-first-drop zero [] = refl
-first-drop zero (b ∷ t) = refl
-first-drop (suc i) [] = refl
-first-drop (suc i) (b ∷ t) = first-drop i t
-
-pub rest-drop : (i : ℕ) (t : List ℕ) → rest (drop i t) ≡ drop (i + 1) t
-rest-drop i t = rw add-one (by-suc i t)
-  where
-    by-suc : (i : ℕ) (t : List ℕ) → rest (drop i t) ≡ drop (suc i) t
-    by-suc zero [] = refl
-    by-suc zero (b ∷ t) = refl
-    by-suc (suc i) [] = refl
-    by-suc (suc i) (b ∷ t) = by-suc i t
-
--- behind the end the first byte counts as 0, so any other byte has its place before the end
-pub inside : (i : ℕ) (t : List ℕ) → 0 < first (drop i t) → i < length t
-inside zero [] h = absurd (omega arith)
-inside (suc i) [] h = absurd (omega arith)
-inside zero (b ∷ t) h = omega arith
-inside (suc i) (b ∷ t) h = omega (arith, inside i t h)
 
 -- ---- digits
 
@@ -56,11 +29,14 @@ digit-range b e = split (leb 48 b) (leb b 57) refl refl e
     split true false low high e = absurd (true≢false (sym e))
     split false q low high e = absurd (true≢false (sym e))
 
-pub digits-next : (k v i : ℕ) (t : List ℕ) → 0 < k → is_digit (first (drop i t)) ≡ true →
-    digits k v (drop i t) ≡ digits (k - 1) (10 * v + (first (drop i t) - 48)) (drop (i + 1) t)
+pub digit-in-range : (b : ℕ) → (48 ≤ b) × (b ≤ 57) → is_digit b ≡ true
+digit-in-range b d = grind (arith, nat_tests)
+
+pub digits-more : (k v b : ℕ) (s : List ℕ) → 0 < k → is_digit b ≡ true →
+    digits k v (b ∷ s) ≡ digits (k - 1) (10 * v + (b - 48)) s
 unfolding digits
-digits-next zero v i t h e = absurd (omega arith)
-digits-next (suc k) v i t h e = rw (e, sub-one (suc k), rest-drop i t)
+digits-more zero v b s h e = absurd (omega arith)
+digits-more (suc k) v b s h e = rw (e, sub-one (suc k))
 
 pub digits-end : (k v : ℕ) (s : List ℕ) → is_digit (first s) ≡ false → digits k v s ≡ found v s
 unfolding digits
@@ -115,6 +91,13 @@ at_most j k v s t e = let h = rw e at (value-bounds j 0 s).1 in omega (arith, (v
 pub at-most-nine : (j k v : ℕ) (s t : List ℕ) → j ≤ 9 → digits j 0 s ≡ digits k v t → v ≤ 999999999
 at-most-nine j k v s t h e = omega (arith, at_most j k v s t e, largest-value-longer j 9 0 h)
 
+-- so a digit more leaves the number of at most nine below 10^9
+pub one-more-digit : (j k v : ℕ) (s t : List ℕ) → j ≤ 9 → 0 < k → digits j 0 s ≡ digits k v t →
+    (48 ≤ get_or t 0 0) × (get_or t 0 0 ≤ 57) → 10 * v + (get_or t 0 0 - 48) ≤ 999999999
+one-more-digit j k v s [] h p e d = absurd (omega arith)
+one-more-digit j k v s (b ∷ t) h p e d =
+    at-most-nine j (k - 1) (10 * v + (b - 48)) s t h (e ∙ digits-more k v b t p (digit-in-range b d))
+
 -- ---- values
 
 module _ (k : ℕ) (s : List ℕ) where
@@ -127,6 +110,14 @@ module _ (k : ℕ) (s : List ℕ) where
   unfolding natural
   natural-found v u e h = rw e h
 
+pub natural-fits : (k : ℕ) (s : List ℕ) (v : ℕ) (u : List ℕ) → natural k s ≡ found v u → k ≤ 9 → v ≤ 999999999
+unfolding natural digits
+natural-fits k s v u e h = split (is_digit (first s)) e
+  where
+    split : (b : Bool) → cond b (digits k 0 s) malformed ≡ found v u → v ≤ 999999999
+    split true e = at-most-nine k 0 v s u h e
+    split false e = let h : ◌≡◌ {A = ℕ} 0 1 = cc in absurd (omega arith)
+
 pub natural-size : (s : List ℕ) (v : ℕ) (u : List ℕ) → natural 6 s ≡ found v u → v ≤ 999999
 unfolding natural digits
 natural-size s v u e = split (is_digit (first s)) e
@@ -135,34 +126,16 @@ natural-size s v u e = split (is_digit (first s)) e
     split true e = at_most 6 0 v s u e
     split false e = let h : ◌≡◌ {A = ℕ} 0 1 = cc in absurd (omega arith)
 
-pub number-minus : (i : ℕ) (t : List ℕ) → eqb (first (drop i t)) 45 ≡ true →
-    number (drop i t) ≡ bind (natural 6 (drop (i + 1) t)) (λ n s. found (neg_ℤ (pos n)) s)
-unfolding number
-number-minus i t e = rw (e, rest-drop i t)
-
 pub number-plain : (s : List ℕ) → eqb (first s) 45 ≡ false → number s ≡ bind (natural 6 s) (λ n s. found (pos n) s)
 unfolding number
 number-plain s e = rw e
 
--- ---- what stands behind a value
-
-pub spaces-next : (i : ℕ) (t : List ℕ) → eqb (first (drop i t)) 32 ≡ true → spaces (drop i t) ≡ spaces (drop (i + 1) t)
-unfolding spaces
-spaces-next i t e = step (drop i t) e ∙ ap spaces (rest-drop i t)
-  where
-    step : (s : List ℕ) → eqb (first s) 32 ≡ true → spaces s ≡ spaces (rest s)
-    step [] e = refl
-    step (b ∷ s) e = rw e
+-- ---- what stands after a value
 
 pub spaces-end : (s : List ℕ) → eqb (first s) 32 ≡ false → spaces s ≡ s
 unfolding spaces
 spaces-end [] e = refl
 spaces-end (b ∷ s) e = rw e
-
-pub separator-last : (i : ℕ) (t : List ℕ)
-    → separator 0 (drop i t) ≡ cond (eqb (first (drop i t)) 10) (found tt (drop (i + 1) t)) malformed
-unfolding separator
-separator-last i t = rw (rest-drop i t)
 
 pub separator-more : (n : ℕ) (s : List ℕ) → (n ≡ 0 → ⊥)
     → separator n s ≡ cond (eqb (first s) 32) (found tt (spaces s)) malformed
@@ -186,20 +159,23 @@ module _ (n : ℕ) (s : List ℕ) where
 
 -- ---- fixed texts
 
-pub literal-next : (name : List ℕ) (i : ℕ) (t : List ℕ) (p : ℕ) → i < length name → p < length t →
-    literal (drop i name) (drop p t)
-    ≡ cond (eqb (get_or name i 0) (get_or t p 0)) (literal (drop (i + 1) name) (drop (p + 1) t)) malformed
-unfolding literal
-literal-next name i t p h g = rw (drop-cons name i 0 h, drop-cons t p 0 g, add-one i, add-one p)
+eqb-either : (a b : ℕ) → eqb a b ≡ eqb b a
+eqb-either a b = grind (arith, nat_tests)
 
-pub literal-short : (name : List ℕ) (i : ℕ) (t : List ℕ) (p : ℕ) → i < length name → length t ≤ p
-    → literal (drop i name) (drop p t) ≡ malformed
-unfolding literal
-literal-short name i t p h g = rw (drop-cons name i 0 h, drop_of_length-le t g)
+both-tests : (p q : Bool) (r s : Reading Unit) → cond p (cond q r s) s ≡ cond (p && q) r s
+both-tests true q r s = refl
+both-tests false q r s = refl
 
-pub literal-end : (name : List ℕ) (i : ℕ) (s : List ℕ) → length name ≤ i → literal (drop i name) s ≡ found tt s
+pub literal-prefix : (name t : List ℕ) → literal name t
+    ≡ cond (pointwise eqb (take (length name) t) name) (found tt (drop (length name) t)) malformed
 unfolding literal
-literal-end name i s h = rw (drop_of_length-le name h)
+literal-prefix [] t = refl
+literal-prefix (a ∷ name) [] = refl
+literal-prefix (a ∷ name) (b ∷ t) =
+    let rest = literal-prefix name t in
+    let either = eqb-either a b in
+    let same = pointwise eqb (take (length name) t) name in
+    rw (rest, either) (both-tests (eqb b a) same (found tt (drop (length name) t)) malformed)
 
 -- ---- lines
 
@@ -242,68 +218,16 @@ pub behind-stored : (values : List ℤ) (i : ℕ) (z : ℤ) (r : Reading (List �
     behind (take i values) (behind (z ∷ []) r) ≡ behind (take (i + 1) (set values i z)) r
 behind-stored values i z r h = behind-both (take i values) (z ∷ []) r ∙ rw (add-one i, take-suc-set values i z h)
 
--- ---- the values of a line that are stored
-
-pub stored-none : (n : ℕ) (s : List ℕ) → n ≤ 0 → values_stored n s ≡ []
-unfolding values_stored
-stored-none zero s h = refl
-stored-none (suc n) s h = absurd (omega arith)
-
-stored_some : (n : ℕ) (s : List ℕ) → 0 < n → values_stored n s
-    ≡ if_found (number s) [] (λ z u. if_found (separator (n - 1) u) [] (λ _ w. z ∷ values_stored (n - 1) w))
-unfolding values_stored
-stored_some zero s h = absurd (omega arith)
-stored_some (suc n) s h = rw (sub-one (suc n))
-
-module _ (n : ℕ) (s : List ℕ) (h : 0 < n) where
-  pub stored-no-number : number s ≡ malformed → values_stored n s ≡ []
-  stored-no-number e = stored_some n s h ∙ rw e
-
-  module _ (z : ℤ) (u : List ℕ) (e : number s ≡ found z u) where
-    pub stored-no-separator : separator (n - 1) u ≡ malformed → values_stored n s ≡ []
-    stored-no-separator g = stored_some n s h ∙ rw (e, g)
-
-    pub stored_next : (w : List ℕ) → separator (n - 1) u ≡ found tt w
-        → values_stored n s ≡ z ∷ values_stored (n - 1) w
-    stored_next w g = stored_some n s h ∙ rw (e, g)
-
--- at most n of n
-pub stored-length : (n : ℕ) (s : List ℕ) → length (values_stored n s) ≤ n
-unfolding values_stored
-stored-length zero s = omega arith
-stored-length (suc n) s = first-value (number s) (λ w. stored-length n w)
-  where
-    first-separator : (z : ℤ) (r : Reading Unit) → ((w : List ℕ) → length (values_stored n w) ≤ n)
-        → length (if_found r [] (λ _ w. z ∷ values_stored n w)) ≤ suc n
-    first-separator z (found _ w) short = omega (arith, short w)
-    first-separator z malformed short = omega arith
-
-    first-value : (r : Reading ℤ) → ((w : List ℕ) → length (values_stored n w) ≤ n)
-        → length (if_found r [] (λ z u. if_found (separator n u) [] (λ _ w. z ∷ values_stored n w))) ≤ suc n
-    first-value (found z u) short = first-separator z (separator n u) short
-    first-value malformed short = omega arith
-
--- stored one after another
-pub stored-over : (n : ℕ) (s : List ℕ) (old : List ℤ) → n ≤ length old
-    → sets old 0 (values_stored n s) ≡ written_over (values_stored n s) old
-stored-over n s old h = written-sets (values_stored n s) old (omega (arith, stored-length n s))
-
--- behind the first n elements nothing is written
-pub stored-behind : (n : ℕ) (s : List ℕ) (old : List ℤ)
-    → drop n (written_over (values_stored n s) old) ≡ drop n old
-stored-behind n s old = written_behind (values_stored n s) old n (stored-length n s)
-
--- a line that was read is stored whole
-pub stored-line : (n : ℕ) (s : List ℕ) (zs : List ℤ) (u : List ℕ) → line n s ≡ found zs u → values_stored n s ≡ zs
-unfolding line values_stored
-stored-line zero s zs u e = cc
-stored-line (suc n) s zs u e =
-    let (z, v, h, e₁) =
-    bind-found (number s) (λ z s. bind (separator n s) (λ _ s. behind (z ∷ []) (line n s))) zs u e in
-    let (_, w, k, e₂) = bind-found (separator n v) (λ _ s. behind (z ∷ []) (line n s)) zs u e₁ in
-    let (ys, x, g, e₃) = bind-found (line n w) (λ ys s. found (z ∷ ys) s) zs u e₂ in
-    let same : z ∷ ys ≡ zs = cc in
-    rw (h, k, stored-line n w ys x g) same
+-- the values before element i, put in front of the line that is still to be read, are the whole line; so they are when
+-- one value more has been read
+pub line-one-more : (n i : ℕ) (t s : List ℕ) (values : List ℤ) (z : ℤ) (u w : List ℕ) → i < n → length values ≡ n
+    → line n t ≡ behind (take i values) (line (n - i) s) → number s ≡ found z u → separator (n - 1 - i) u ≡ found tt w
+    → line n t ≡ behind (take (i + 1) (set values i z)) (line (n - (i + 1)) w)
+line-one-more n i t s values z u w inside size so-far e g =
+    let fewer : n - i - 1 ≡ n - 1 - i = omega arith in
+    let left : n - i - 1 ≡ n - (i + 1) = omega arith in
+    let next = line-next (n - i) s (omega arith) z u e w (rw fewer g) in
+    so-far ∙ rw (next, left) (behind-stored values i z (line (n - (i + 1)) w) (omega arith))
 
 -- ---- the sizes of values
 
