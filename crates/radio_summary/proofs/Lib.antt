@@ -1,1 +1,3 @@
-pub mod Facts
+pub mod Taking
+pub mod Rules
+pub mod Listed

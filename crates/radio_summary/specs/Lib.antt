@@ -1,6 +1,6 @@
 pub mod Summary
-pub mod Private
 pub mod OrderLaws
+pub mod InsertingLaws
 pub mod SummaryLaws
 pub mod SortedLaws
 pub mod Cases

@@ -7,7 +7,7 @@
 ghost use Rattle.format.specs.Wrote.{Wrote, Within};
 ghost use Rattle.radios_text.specs.RadiosText.{summary};
 
-use calls::Answer;
+use calls::Refusal;
 use radio_summary::LONGEST_SUMMARY;
 
 // The summary of a list: `&out[..summary(text, &mut out)]`.
@@ -18,7 +18,7 @@ pub fn summary(text: &[u8], out: &mut [u8; LONGEST_SUMMARY]) -> usize
     let list = radio_list::read(text);
     let answer = list.answer;
     match answer {
-        Answer::Done => radio_summary::write(list.radios, out),
-        Answer::Refused(refusal) => format::refused(out, refusal),
+        Ok(()) => radio_summary::write(list.radios, out),
+        Err(refusal) => format::refused(out, refusal),
     }
 }

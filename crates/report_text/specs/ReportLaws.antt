@@ -13,9 +13,10 @@ use Rattle.settings.specs.Settings.{largest_limit, decode_number}
 use Rattle.settings.specs.SettingsLaws.{accepted}
 use Rattle.decoder.specs.declared.Reason.{Reason}
 use Rattle.decoder.specs.declared.Reason.TheVariants.{Criterion, Limit}
-use Rattle.decoder.specs.declared.Outcome.{Outcome}
-use Rattle.decoder.specs.declared.Outcome.TheVariants.{Ended, Refused}
+use Rattle.std.specs.Prelude.{Ok, Err}
+use Rattle.decoder.specs.declared.Ending.{Ending as CodeEnding}
 use Rattle.decoder.specs.Decoder.{
+  Outcome,
   Result,
   ended,
   refused,
@@ -49,7 +50,7 @@ use Rattle.format.specs.TextLaws.{position-lines-same, position-lines-length}
 use Rattle.report_input.specs.Input.{Block, largest_lengths}
 use Rattle.report_input.specs.InputLaws.{Fit}
 use Rattle.report_text.specs.Report.{outputs_at, outcome_text, block_text}
-use Rattle.report_text.specs.Private.{slice_values, ending_at, heading_text}
+use Rattle.report_text.specs.Private.{slice_values, ending_of, heading_text}
 
 -- ---- room
 
@@ -126,7 +127,7 @@ decoded-block {s} {block} before {after} fit d lengths =
 module _ {s : Settings} {block : Block} {work : List ℤ} {after : Slices} {r : Outcome}
     (b : DecodedBlock s block work after r) where
   -- it isn't refused
-  pub not-refused : (refusal : Refusal) → r ≡ Refused refusal → ⊥
+  pub not-refused : (refusal : Refusal) → r ≡ Err refusal → ⊥
   not-refused refusal e = true≢false (ap is_refusal (sym (ap result_of e) ∙ b.answer))
     where
       is_refusal : Result → Bool
@@ -134,15 +135,15 @@ module _ {s : Settings} {block : Block} {work : List ℤ} {after : Slices} {r : 
       is_refusal (ended t reason) = false
 
   -- its ending is the decoder's
-  pub ending-is : (t : ℕ) (reason : Reason) → r ≡ Ended t reason → ending_at t reason ≡ ending_on s block work
-  ending-is t reason e = ap ending_in (sym (ap result_of e) ∙ b.answer)
+  pub ending-is : (e : CodeEnding) → r ≡ Ok e → ending_of e ≡ ending_on s block work
+  ending-is e is = ap ending_in (sym (ap result_of is) ∙ b.answer)
     where
       ending_in : Result → Ending
       ending_in (refused number) = record { iteration = 0; reason = number }
       ending_in (ended t reason) = record { iteration = t; reason = reason }
 
-  pub iterations-short : (t : ℕ) (reason : Reason) → r ≡ Ended t reason → t ≤ 9999
-  iterations-short t reason e = omega (arith, b.iteration-le, ap (λ (e : Ending). e.iteration) (ending-is t reason e))
+  pub iterations-short : (e : CodeEnding) → r ≡ Ok e → e.iterations ≤ 9999
+  iterations-short e is = omega (arith, b.iteration-le, ap (λ (x : Ending). x.iteration) (ending-is e is))
 
   -- its lines have room, and are those of the definition
   abbrev shown_values : ℕ → List ℤ
@@ -154,11 +155,11 @@ module _ {s : Settings} {block : Block} {work : List ℤ} {after : Slices} {r : 
       rw (b.values i (omega arith))
       (outputs-short s block.mask (final_on s block work) i b.ceiling-le (omega (arith, b.size))))
 
-  pub block-text : (n t : ℕ) (reason : Reason) → n ≡ 2 ^ s.m → r ≡ Ended t reason
-      → outcome_text (ending_at t reason) n shown_values ≡ block_text s block work
+  pub block-text : (n : ℕ) (e : CodeEnding) → n ≡ 2 ^ s.m → r ≡ Ok e
+      → outcome_text (ending_of e) n shown_values ≡ block_text s block work
   unfolding outcome_text
-  block-text n t reason size e =
-      ap (λ (x : Ending). outcome_text x n shown_values) (ending-is t reason e)
+  block-text n e size is =
+      ap (λ (x : Ending). outcome_text x n shown_values) (ending-is e is)
       ∙ ap (λ (k : ℕ). outcome_text (ending_on s block work) k shown_values) size
       ∙ ap (λ (l : List ℕ). heading_text (ending_on s block work) ++ l)
       (position-lines-same shown_values (outputs_at s block.mask (final_on s block work)) (2 ^ s.m) 0

@@ -13,11 +13,10 @@ ghost use Rattle.format.specs.Texts.{position_lines};
 ghost use Rattle.format.specs.Wrote.{Wrote, Within};
 ghost use Rattle.report_text.specs.Report.{report_room, position_values};
 ghost use Rattle.report_text.specs.Report.{outcome_text, block_text, report};
-ghost use Rattle.report_text.specs.Private.{slice_values, ending_at, heading_text};
+ghost use Rattle.report_text.specs.Private.{output_values, OutputsLong, ending_of, heading_text};
 
 use calls::{MOST_POSITIONS, MOST_WORKSPACE};
-use decoder::{Outcome, Reason};
-use report_input::Input;
+use decoder::Ending;
 use settings::Settings;
 
 // The room that is enough for every output.
@@ -48,68 +47,61 @@ fn position_line(
     format::line(out, at, &values)
 }
 
+// What the decoder wrote of a block.
+#[derive(Clone, Copy)]
+struct Outputs<'a> {
+    soft: &'a [i16],
+    mark: &'a [u8],
+    coded_soft: &'a [i16],
+    coded_mark: &'a [u8],
+}
+
 // The lines of the first n positions.
-fn position_lines(
-    out: &mut [u8],
-    at: usize,
-    n: usize,
-    soft: &[i16],
-    mark: &[u8],
-    coded_soft: &[i16],
-    coded_mark: &[u8],
-) -> usize
-    requires n_le_most_positions { (n ≤ most_positions) × (n ≤ length soft.now) × (n ≤ length mark.now)
-        × (n ≤ length coded_soft.now) × (n ≤ length coded_mark.now) }
-    requires n_in_bounds { at
-        + length (position_lines (slice_values soft.now mark.now coded_soft.now coded_mark.now) n 0)
-        ≤ length out.old }
-    ensures { Wrote out.old at
-        (position_lines (slice_values soft.now mark.now
-        coded_soft.now coded_mark.now) n 0) out.new result }
+fn position_lines(out: &mut [u8], at: usize, n: usize, outputs: Outputs) -> usize
+    requires n_le_most_positions { (n ≤ most_positions) × OutputsLong n outputs }
+    requires n_in_bounds { at + length (position_lines (output_values outputs) n 0) ≤ length out.old }
+    ensures { Wrote out.old at (position_lines (output_values outputs.entry) n 0) out.new result }
 {
     let mut end = at;
-    let mut i: usize = 0;
-    while i < n {
-        end = position_line(out, end, i, soft[i], mark[i], coded_soft[i], coded_mark[i]);
-        i += 1;
+    for i in 0..n {
+        end = position_line(
+            out,
+            end,
+            i,
+            outputs.soft[i],
+            outputs.mark[i],
+            outputs.coded_soft[i],
+            outputs.coded_mark[i],
+        );
     }
     end
 }
 
 // The first three lines of an outcome.
-fn heading(out: &mut [u8], iterations: u32, reason: Reason) -> usize
-    requires { (iterations ≤ 9999) × (100 ≤ length out.old) }
-    ensures { Wrote out.old 0 (heading_text (ending_at iterations reason)) out.new result }
+fn heading(out: &mut [u8], ending: Ending) -> usize
+    requires { (ending.iterations ≤ 9999) × (100 ≤ length out.old) }
+    ensures { Wrote out.old 0 (heading_text (ending_of ending)) out.new result }
 {
     let end = format::copy(out, 0, b"iterations reason\n");
-    let values = [iterations as i32, decoder::reason_number(reason) as i32];
+    let values = [
+        ending.iterations as i32,
+        decoder::reason_number(ending.reason) as i32,
+    ];
     let end = format::line(out, end, &values);
     format::copy(out, end, b"position soft mark coded codedmark\n")
 }
 
-// An outcome: its iteration and reason, and the first n elements of the decoder's outputs.
-fn outcome(
-    out: &mut [u8],
-    n: usize,
-    iterations: u32,
-    reason: Reason,
-    soft: &[i16],
-    mark: &[u8],
-    coded_soft: &[i16],
-    coded_mark: &[u8],
-) -> usize
-    requires iterations_bound { (iterations ≤ 9999) × (report_room ≤ length out.old) }
-    requires n_le_most_positions { (n ≤ most_positions) × (n ≤ length soft.now) × (n ≤ length mark.now)
-        × (n ≤ length coded_soft.now) × (n ≤ length coded_mark.now) }
-    requires n_len_bound { length (position_lines (slice_values soft.now mark.now coded_soft.now coded_mark.now) n 0)
-        ≤ 30 * n }
+// An outcome: its ending, and the first n elements of the decoder's outputs.
+fn outcome(out: &mut [u8], n: usize, ending: Ending, outputs: Outputs) -> usize
+    requires iterations_bound { (ending.iterations ≤ 9999) × (report_room ≤ length out.old) }
+    requires n_le_most_positions { (n ≤ most_positions) × OutputsLong n outputs }
+    requires n_len_bound { length (position_lines (output_values outputs) n 0) ≤ 30 * n }
     ensures wrote { Wrote out.old 0
-        (outcome_text (ending_at iterations reason) n (slice_values soft.now mark.now
-        coded_soft.now coded_mark.now)) out.new result }
+        (outcome_text (ending_of ending) n (output_values outputs.entry)) out.new result }
     ensures upper_bound { result ≤ report_room }
 {
-    let end = heading(out, iterations, reason);
-    position_lines(out, end, n, soft, mark, coded_soft, coded_mark)
+    let end = heading(out, ending);
+    position_lines(out, end, n, outputs)
 }
 
 // The outcome of an accepted block, in a workspace with room for every block.
@@ -136,19 +128,16 @@ fn decoded(out: &mut [u8], settings: Settings, mask: &[u8], llr: &[i16], work: &
         work,
     );
     match answer {
-        Outcome::Refused(refusal) => format::refused(out, refusal),
-        Outcome::Ended(iterations, reason) => {
+        Err(refusal) => format::refused(out, refusal),
+        Ok(ending) => {
             let n = polar::power_of_two(settings.m);
-            outcome(
-                out,
-                n,
-                iterations,
-                reason,
-                &soft,
-                &mark,
-                &coded_soft,
-                &coded_mark,
-            )
+            let outputs = Outputs {
+                soft: &soft,
+                mark: &mark,
+                coded_soft: &coded_soft,
+                coded_mark: &coded_mark,
+            };
+            outcome(out, n, ending, outputs)
         }
     }
 }
@@ -163,8 +152,8 @@ pub fn report_into(text: &[u8], out: &mut [u8]) -> usize
     let mut mask = [0u8; MOST_POSITIONS];
     let mut llr = [0i16; MOST_POSITIONS];
     match report_input::read(text, &mut mask, &mut llr) {
-        Input::Refused(refusal) => format::refused(out, refusal),
-        Input::Accepted(settings) => {
+        Err(refusal) => format::refused(out, refusal),
+        Ok(settings) => {
             let n = polar::power_of_two(settings.m);
             let mut work = [0i16; MOST_WORKSPACE];
             decoded(out, settings, &mask[..n], &llr[..n], &mut work)

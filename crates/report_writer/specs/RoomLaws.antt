@@ -42,8 +42,7 @@ use Rattle.report_writer.specs.Writer.{
   text_after,
   answer_of,
 }
-use Rattle.report_writer.specs.declared.Written.{Written}
-use Rattle.report_writer.specs.declared.Written.TheVariants.{Length, Refused}
+use Rattle.std.specs.Prelude.{Result, Ok, Err}
 
 -- ---- what is written of an accepted block
 
@@ -240,13 +239,14 @@ by_length : (number n : ℕ) {k : ℕ} → wrote k ≡ write_answer_by number n 
 by_length zero n e = (refl, cc)
 by_length (suc number) n e = absurd (true≢false (ap is_wrote e))
 
-module _ (s : Settings) (b : Block) (old : List ℕ) (r : Written) (answer : answer_of r ≡ write_answer s b old) where
-  pub answered-refused : {refusal : Refusal} → r ≡ Refused refusal
+module _ (s : Settings) (b : Block) (old : List ℕ) (r : Result ℕ Refusal)
+    (answer : answer_of r ≡ write_answer s b old) where
+  pub answered-refused : {refusal : Refusal} → r ≡ Err refusal
       → write_number s b (length old) ≡ refusal_number refusal
   answered-refused e =
       by-refusal (write_number s b (length old)) (length (tidy_text s b)) (sym (ap answer_of e) ∙ answer)
 
-  pub answered-written : {k : ℕ} → r ≡ Length k
+  pub answered-written : {k : ℕ} → r ≡ Ok k
       → (write_number s b (length old) ≡ 0) × (k ≡ length (tidy_text s b))
   answered-written e =
       by_length (write_number s b (length old)) (length (tidy_text s b)) (sym (ap answer_of e) ∙ answer)

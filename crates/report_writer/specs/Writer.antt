@@ -1,13 +1,13 @@
 -- Request 2026-01, "Tidy block files": the one text that settings and a block are written as, and what the writer
 -- answers and leaves. Definitions only.
 use Rattle.std.specs.Prelude.{ℕ, zero, suc, ◌^◌, List, [], ◌∷◌, ◌++◌, map, leb, ℤ, pos, length, get_or}
+use Rattle.std.specs.Prelude.{Result, Ok, Err}
 use Rattle.calls.specs.LentMemory.{written_over, unless_refused}
 use Rattle.calls.specs.Numbers.{check, first_refusal, refusal_number}
 use Rattle.format.specs.Decimal.{line}
 use Rattle.format.specs.Texts.{position_lines}
 use Rattle.report_input.specs.Input.{setting_names, position_names, Block, block_number}
-use Rattle.report_writer.specs.declared.Written.{Written}
-use Rattle.report_writer.specs.declared.Written.TheVariants.{Length, Refused}
+use Rattle.calls.specs.declared.Refusal.{Refusal}
 use Rattle.settings.specs.declared.Settings.{Settings}
 use Rattle.settings.specs.Settings.{settings_list}
 
@@ -56,6 +56,6 @@ write_answer s b old = write_answer_by (write_number s b (length old)) (length (
 abbrev pub text_after : Settings → Block → List ℕ → List ℕ
 text_after s b old = unless_refused (write_number s b (length old)) (written_over (tidy_text s b) old) old
 
-abbrev pub answer_of : Written → WriteAnswer
-answer_of (Length n) = wrote n
-answer_of (Refused r) = rejected (refusal_number r)
+abbrev pub answer_of : Result ℕ Refusal → WriteAnswer
+answer_of (Ok n) = wrote n
+answer_of (Err r) = rejected (refusal_number r)

@@ -14,18 +14,11 @@ ghost use Rattle.report_input.specs.Input.{block_of, block_number};
 ghost use Rattle.report_writer.specs.Writer.{values_of, values_at, tidy_text, longest_tidy_text};
 ghost use Rattle.report_writer.specs.Writer.{answer_of, write_answer, text_after};
 
-use calls::{Answer, Refusal};
+use calls::Refusal;
 use settings::Settings;
 
 // The most bytes of a text that is written.
 pub const LONGEST_TIDY_TEXT: usize = 12283;
-
-// The length of the text, or a refusal.
-#[derive(Clone, Copy)]
-pub enum Written {
-    Length(usize),
-    Refused(Refusal),
-}
 
 // The line of the settings, in the order of their names.
 fn settings_line(out: &mut [u8], at: usize, settings: Settings) -> usize
@@ -61,10 +54,8 @@ fn position_lines(out: &mut [u8], at: usize, n: usize, mask: &[u8], llr: &[i16])
         (position_lines (values_at (block_of mask.now llr.now)) n 0) out.new result }
 {
     let mut end = at;
-    let mut i: usize = 0;
-    while i < n {
+    for i in 0..n {
         end = position_line(out, end, i, mask[i], llr[i]);
-        i += 1;
     }
     end
 }
@@ -83,24 +74,25 @@ fn compose(out: &mut [u8], settings: Settings, mask: &[u8], llr: &[i16]) -> usiz
 }
 
 // The text is composed in memory of its own, so that every test comes before the first write: the decoder's, and last
-// that of the room.
-pub fn write(settings: Settings, mask: &[u8], llr: &[i16], text: &mut [u8]) -> Written
+// that of the room. The answer is the text's length.
+pub fn write(
+    settings: Settings,
+    mask: &[u8],
+    llr: &[i16],
+    text: &mut [u8],
+) -> Result<usize, Refusal>
     ensures result_value { answer_of result
         ≡ write_answer settings (block_of mask.now llr.now) text.old }
     ensures text_after { text.new
         ≡ text_after settings (block_of mask.now llr.now) text.old }
 {
-    match report_input::decoder_refusal(settings, mask, llr) {
-        Answer::Refused(refusal) => Written::Refused(refusal),
-        Answer::Done => {
-            let mut own = [0u8; LONGEST_TIDY_TEXT];
-            let length = compose(&mut own, settings, mask, llr);
-            let room = text.len();
-            if room < length {
-                return Written::Refused(Refusal::ShortSlice);
-            }
-            format::copy(text, 0, &own[..length]);
-            Written::Length(length)
-        }
+    report_input::decoder_refusal(settings, mask, llr)?;
+    let mut own = [0u8; LONGEST_TIDY_TEXT];
+    let length = compose(&mut own, settings, mask, llr);
+    let room = text.len();
+    if room < length {
+        return Err(Refusal::ShortSlice);
     }
+    format::copy(text, 0, &own[..length]);
+    Ok(length)
 }

@@ -11,8 +11,7 @@ ghost use Rattle.report_writer.specs.Writer.{tidy_text, longest_tidy_text};
 ghost use Rattle.tidy_text.specs.Tidy.{tidy};
 
 use calls::MOST_POSITIONS;
-use report_input::Input;
-use report_writer::{LONGEST_TIDY_TEXT, Written};
+use report_writer::LONGEST_TIDY_TEXT;
 use settings::Settings;
 
 // The tidy text of an accepted block, which the writer doesn't refuse.
@@ -24,8 +23,8 @@ fn written(out: &mut [u8], settings: Settings, mask: &[u8], llr: &[i16]) -> usiz
     ensures upper_bound { result ≤ longest_tidy_text }
 {
     match report_writer::write(settings, mask, llr, out) {
-        Written::Length(length) => length,
-        Written::Refused(refusal) => format::refused(out, refusal),
+        Ok(length) => length,
+        Err(refusal) => format::refused(out, refusal),
     }
 }
 
@@ -37,7 +36,7 @@ pub fn tidy(text: &[u8], out: &mut [u8; LONGEST_TIDY_TEXT]) -> usize
     let mut mask = [0u8; MOST_POSITIONS];
     let mut llr = [0i16; MOST_POSITIONS];
     match report_input::read(text, &mut mask, &mut llr) {
-        Input::Refused(refusal) => format::refused(out, refusal),
-        Input::Accepted(settings) => written(out, settings, &mask, &llr),
+        Err(refusal) => format::refused(out, refusal),
+        Ok(settings) => written(out, settings, &mask, &llr),
     }
 }

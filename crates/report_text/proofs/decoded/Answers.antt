@@ -8,8 +8,7 @@ use lib.ListN.{length, replicate, length-replicate}
 use Rattle.format.specs.Wrote.{Wrote}
 use Rattle.settings.specs.declared.Settings.{Settings}
 use Rattle.settings.specs.Slices.{Slices, slices}
-use Rattle.decoder.specs.declared.Outcome.{Outcome}
-use Rattle.decoder.specs.Decoder.{Decoded}
+use Rattle.decoder.specs.Decoder.{Outcome, Decoded}
 use Rattle.calls.specs.Bounds.{most_positions, most_workspace}
 use Rattle.report_input.specs.Input.{Block}
 use Rattle.report_input.specs.InputLaws.{Fit}
@@ -37,7 +36,7 @@ left work fit long decoded =
 pub outcome-requires-clause-iterations_bound : goal.outcome-requires-clause-iterations_bound
 outcome-requires-clause-iterations_bound c =
     let block = left c.args.work.now c.requires.fit c.requires.work_len.0 c.decode-answer.ensures in
-    (iterations-short block c.in-Ended.iterations c.in-Ended.reason c.in-Ended.is, c.requires.work_len.1)
+    (iterations-short block c.in-Ok.ending c.in-Ok.is, c.requires.work_len.1)
 
 pub outcome-requires-clause-n_le_most_positions : goal.outcome-requires-clause-n_le_most_positions
 outcome-requires-clause-n_le_most_positions c =
@@ -49,11 +48,9 @@ outcome-requires-clause-n_len_bound c =
     let block = left c.args.work.now c.requires.fit c.requires.work_len.0 c.decode-answer.ensures in
     block_room block c.power_of_two-n.result c.power_of_two-n.ensures
 
-pub returns-in-Ended-clause-wrote : goal.returns-in-Ended-clause-wrote
-returns-in-Ended-clause-wrote c =
+pub returns-in-Ok-clause-wrote : goal.returns-in-Ok-clause-wrote
+returns-in-Ok-clause-wrote c =
     let block = left c.args.work.now c.requires.fit c.requires.work_len.0 c.decode-answer.ensures in
-    let same =
-    block-text block c.power_of_two-n.result c.in-Ended.iterations c.in-Ended.reason c.power_of_two-n.ensures
-    c.in-Ended.is in
+    let same = block-text block c.power_of_two-n.result c.in-Ok.ending c.power_of_two-n.ensures c.in-Ok.is in
     let r = c.outcome in
     subst (λ (text : List ℕ). Wrote c.args.out.now 0 text r.new.out r.result) same r.ensures.wrote

@@ -4,7 +4,7 @@ use native.Mathlib.Omega.{arith}
 use Rattle.format.specs.WroteLaws.{wrote_then, wrote-length}
 use Rattle.report_text.specs.ReportLaws.{reason-le, heading-room}
 use Rattle.report_text.specs.Report.{outcome_text}
-use Rattle.report_text.specs.Private.{ending_at}
+use Rattle.report_text.specs.Private.{ending_of}
 use Rattle.report_text.proofs.outcome.Goals as goal
 
 pub position_lines-requires-clause-n_in_bounds : goal.position_lines-requires-clause-n_in_bounds
@@ -13,8 +13,8 @@ position_lines-requires-clause-n_in_bounds c =
     omega (
       arith,
       c.heading-end.ensures.next-is,
-      heading-room (ending_at a.iterations a.reason) c.requires.iterations_bound.0
-          (omega (arith, reason-le a.reason)),
+      heading-room (ending_of a.ending) c.requires.iterations_bound.0
+          (omega (arith, reason-le a.ending.reason)),
     ) in
     let pre = c.requires in
     (omega (
@@ -33,8 +33,8 @@ returns-clause-wrote c =
     omega (
       arith,
       c.heading-end.ensures.next-is,
-      heading-room (ending_at a.iterations a.reason) c.requires.iterations_bound.0
-          (omega (arith, reason-le a.reason)),
+      heading-room (ending_of a.ending) c.requires.iterations_bound.0
+          (omega (arith, reason-le a.ending.reason)),
     ) in
     let pre = c.requires in let written = c.position_lines.ensures in (wrote_then c.heading-end.ensures written)
 
@@ -45,8 +45,8 @@ returns-clause-upper_bound c =
     omega (
       arith,
       c.heading-end.ensures.next-is,
-      heading-room (ending_at a.iterations a.reason) c.requires.iterations_bound.0
-          (omega (arith, reason-le a.reason)),
+      heading-room (ending_of a.ending) c.requires.iterations_bound.0
+          (omega (arith, reason-le a.ending.reason)),
     ) in
     let pre = c.requires in
     let written = c.position_lines.ensures in

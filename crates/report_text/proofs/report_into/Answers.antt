@@ -13,18 +13,18 @@ use Rattle.report_text.specs.ReportLaws.{fit_length}
 use Rattle.report_text.proofs.report_into.Goals as goal
 
 pub refused-requires : goal.refused-requires
-refused-requires c = omega (arith, refusal-length c.in-Refused.refusal, c.requires)
+refused-requires c = omega (arith, refusal-length c.in-Err.refusal, c.requires)
 
 pub power_of_two-n-requires : goal.power_of_two-n-requires
 power_of_two-n-requires c =
-    fit_length (accepted-text c.args.text.now cleared-long c.read.ensures c.in-Accepted.is refl).fit
+    fit_length (accepted-text c.args.text.now cleared-long c.read.ensures c.in-Ok.is refl).fit
 
 pub slice_bounds-mask-end : goal.slice_bounds-mask-end
 slice_bounds-mask-end c =
     let n : ℕ = c.power_of_two-n.result in
     let slices : Block = block_of c.read.new.mask c.read.new.llr in
-    let text : AcceptedText (meaning c.args.text.now) c.in-Accepted.settings (first_of n (slices)) =
-    accepted-text c.args.text.now cleared-long c.read.ensures c.in-Accepted.is c.power_of_two-n.ensures in
+    let text : AcceptedText (meaning c.args.text.now) c.in-Ok.settings (first_of n (slices)) =
+    accepted-text c.args.text.now cleared-long c.read.ensures c.in-Ok.is c.power_of_two-n.ensures in
     let mask-long : n ≡ length (take n (slices).mask) = c.power_of_two-n.ensures ∙ sym text.fit.long.mask-long in
     omega (arith, length-take (n) (slices).mask, mask-long)
 
@@ -32,8 +32,8 @@ pub slice_bounds-decoded-end : goal.slice_bounds-decoded-end
 slice_bounds-decoded-end c =
     let n : ℕ = c.power_of_two-n.result in
     let slices : Block = block_of c.read.new.mask c.read.new.llr in
-    let text : AcceptedText (meaning c.args.text.now) c.in-Accepted.settings (first_of n (slices)) =
-    accepted-text c.args.text.now cleared-long c.read.ensures c.in-Accepted.is c.power_of_two-n.ensures in
+    let text : AcceptedText (meaning c.args.text.now) c.in-Ok.settings (first_of n (slices)) =
+    accepted-text c.args.text.now cleared-long c.read.ensures c.in-Ok.is c.power_of_two-n.ensures in
     let mask-long : n ≡ length (take n (slices).mask) = c.power_of_two-n.ensures ∙ sym text.fit.long.mask-long in
     mask-long
 
@@ -41,17 +41,17 @@ pub slice_bounds-llr-end : goal.slice_bounds-llr-end
 slice_bounds-llr-end c =
     let n : ℕ = c.power_of_two-n.result in
     let slices : Block = block_of c.read.new.mask c.read.new.llr in
-    let text : AcceptedText (meaning c.args.text.now) c.in-Accepted.settings (first_of n (slices)) =
-    accepted-text c.args.text.now cleared-long c.read.ensures c.in-Accepted.is c.power_of_two-n.ensures in
+    let text : AcceptedText (meaning c.args.text.now) c.in-Ok.settings (first_of n (slices)) =
+    accepted-text c.args.text.now cleared-long c.read.ensures c.in-Ok.is c.power_of_two-n.ensures in
     let llr-long : n ≡ length (take n (slices).llr) = c.power_of_two-n.ensures ∙ sym text.fit.long.llr-long in
     omega (arith, length-take (n) (slices).llr, llr-long)
 
-pub slice_bounds-decoded-end-in-Accepted : goal.slice_bounds-decoded-end-in-Accepted
-slice_bounds-decoded-end-in-Accepted c =
+pub slice_bounds-decoded-end-in-Ok : goal.slice_bounds-decoded-end-in-Ok
+slice_bounds-decoded-end-in-Ok c =
     let n : ℕ = c.power_of_two-n.result in
     let slices : Block = block_of c.read.new.mask c.read.new.llr in
-    let text : AcceptedText (meaning c.args.text.now) c.in-Accepted.settings (first_of n (slices)) =
-    accepted-text c.args.text.now cleared-long c.read.ensures c.in-Accepted.is c.power_of_two-n.ensures in
+    let text : AcceptedText (meaning c.args.text.now) c.in-Ok.settings (first_of n (slices)) =
+    accepted-text c.args.text.now cleared-long c.read.ensures c.in-Ok.is c.power_of_two-n.ensures in
     let llr-long : n ≡ length (take n (slices).llr) = c.power_of_two-n.ensures ∙ sym text.fit.long.llr-long in
     llr-long
 
@@ -59,33 +59,33 @@ pub decoded-requires-clause-fit : goal.decoded-requires-clause-fit
 decoded-requires-clause-fit c =
     let n : ℕ = c.power_of_two-n.result in
     let slices : Block = block_of c.read.new.mask c.read.new.llr in
-    let text : AcceptedText (meaning c.args.text.now) c.in-Accepted.settings (first_of n (slices)) =
-    accepted-text c.args.text.now cleared-long c.read.ensures c.in-Accepted.is c.power_of_two-n.ensures in
+    let text : AcceptedText (meaning c.args.text.now) c.in-Ok.settings (first_of n (slices)) =
+    accepted-text c.args.text.now cleared-long c.read.ensures c.in-Ok.is c.power_of_two-n.ensures in
     text.fit
 
-pub returns-in-Refused-clause-wrote : goal.returns-in-Refused-clause-wrote
+pub returns-in-Err-clause-wrote : goal.returns-in-Err-clause-wrote
 unfolding report
-returns-in-Refused-clause-wrote c =
+returns-in-Err-clause-wrote c =
     let a = c.args in
     let w = c.refused in
-    let means = refused-text a.text.now cleared-long c.read.ensures c.in-Refused.is in
+    let means = refused-text a.text.now cleared-long c.read.ensures c.in-Err.is in
     (subst (λ (text : List ℕ). Wrote a.out.now 0 text w.new.out w.result) (sym (ap text_of means)) w.ensures)
 
-pub returns-in-Refused-clause-upper_bound : goal.returns-in-Refused-clause-upper_bound
+pub returns-in-Err-clause-upper_bound : goal.returns-in-Err-clause-upper_bound
 unfolding report
-returns-in-Refused-clause-upper_bound c =
+returns-in-Err-clause-upper_bound c =
     let a = c.args in
     let w = c.refused in
-    let means = refused-text a.text.now cleared-long c.read.ensures c.in-Refused.is in
-    (omega (arith, w.ensures.next-is, refusal-length c.in-Refused.refusal))
+    let means = refused-text a.text.now cleared-long c.read.ensures c.in-Err.is in
+    (omega (arith, w.ensures.next-is, refusal-length c.in-Err.refusal))
 
-pub returns-in-Accepted-clause-wrote : goal.returns-in-Accepted-clause-wrote
+pub returns-in-Ok-clause-wrote : goal.returns-in-Ok-clause-wrote
 unfolding report
-returns-in-Accepted-clause-wrote c =
+returns-in-Ok-clause-wrote c =
     let n : ℕ = c.power_of_two-n.result in
     let slices : Block = block_of c.read.new.mask c.read.new.llr in
-    let text : AcceptedText (meaning c.args.text.now) c.in-Accepted.settings (first_of n (slices)) =
-    accepted-text c.args.text.now cleared-long c.read.ensures c.in-Accepted.is c.power_of_two-n.ensures in
+    let text : AcceptedText (meaning c.args.text.now) c.in-Ok.settings (first_of n (slices)) =
+    accepted-text c.args.text.now cleared-long c.read.ensures c.in-Ok.is c.power_of_two-n.ensures in
     let w = c.decoded in
     (subst (λ (text : List ℕ). Wrote c.args.out.now 0 text w.new.out w.result)
     (sym (ap text_of (text).is)) w.ensures.wrote)

@@ -28,7 +28,7 @@ position_line-end-requires c =
     let rest : List ℕ = position_lines all (c.args.n - (i + 1)) (i + 1) in
     let next : position_lines all (c.args.n - i) i ≡ line handed ++ rest =
     position-lines-next all c.args.n i (omega arith) ∙ ap (λ (zs : List ℤ). line zs ++ rest) (sym are-values) in
-    (omega arith, writing-room (line (handed)) (rest) c.loop-i.invariant.1 (next) c.requires.n_in_bounds)
+    (omega arith, writing-room (line (handed)) (rest) c.loop-i.invariant (next) c.requires.n_in_bounds)
 
 pub loop-i-preserved : goal.loop-i-preserved
 loop-i-preserved c =
@@ -41,12 +41,12 @@ loop-i-preserved c =
     let rest : List ℕ = position_lines all (c.args.n - (i + 1)) (i + 1) in
     let next : position_lines all (c.args.n - i) i ≡ line handed ++ rest =
     position-lines-next all c.args.n i (omega arith) ∙ ap (λ (zs : List ℤ). line zs ++ rest) (sym are-values) in
-    (omega arith, writing-next c.loop-i.invariant.1 (next) c.position_line-end.ensures)
+    writing-next c.loop-i.invariant next c.position_line-end.ensures
 
 pub returns : goal.returns
 returns c =
     let a = c.args in
     let values = values_at (block_of a.mask.now a.llr.now) in
     let last : c.loop-i.i ≡ a.n = omega arith in
-    writing-ends c.loop-i.invariant.1
+    writing-ends c.loop-i.invariant
     (ap (λ (k : ℕ). position_lines values (a.n - k) k) last ∙ position-lines-end values a.n)

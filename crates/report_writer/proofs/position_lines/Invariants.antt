@@ -1,4 +1,4 @@
-use Prim.Native.Nat.{ℕ, ◌-◌, ◌≤◌}
+use Rattle.std.proofs.Common.{ℕ, ◌-◌}
 use mathlib.Core.List.{List}
 use lib.IntN.{ℤ}
 use Rattle.format.specs.Texts.{position_lines}
@@ -12,8 +12,4 @@ lines_of mask llr = position_lines (values_at (block_of mask llr))
 
 abbrev pub invariant-loop-i : goal.invariant-loop-i
 invariant-loop-i l =
-    (l.i ≤ l.n)
-    × Writing l.initial.out l.at (lines_of l.mask l.llr l.n 0) l.out l.end (lines_of l.mask l.llr (l.n - l.i) l.i)
-
-abbrev pub decreases-loop-i : goal.decreases-loop-i
-decreases-loop-i l = l.n - l.i
+    Writing l.initial.out l.at (lines_of l.mask l.llr l.n 0) l.out l.end (lines_of l.mask l.llr (l.n - l.i) l.i)

@@ -21,7 +21,7 @@ slice_bounds-own-end c =
     let s : Settings = c.args.settings in
     let text : List ℕ = tidy_text (s) (b) in
     let long : c.compose-length.result ≡ length text = c.compose-length.ensures.next-is ∙ zero-add (length text) in
-    let number : block_number (s) (b) ≡ 0 = sym c.decoder_refusal.ensures ∙ ap number_of c.in-Done.is in
+    let number : block_number (s) (b) ≡ 0 = sym c.decoder_refusal.ensures ∙ ap number_of c.in_ok-decoder_refusal.was in
     let passed : block_number (s) (b) ≡ 0 = number in
     let short : length text ≤ longest_tidy_text = tidy-length (s) (b) passed in
     let same = wrote-length c.compose-length.ensures in
@@ -31,7 +31,7 @@ pub slice_bounds-copy-end : goal.slice_bounds-copy-end
 slice_bounds-copy-end c =
     let b : Block = block_of c.args.mask.now c.args.llr.now in
     let s : Settings = c.args.settings in
-    let number : block_number (s) (b) ≡ 0 = sym c.decoder_refusal.ensures ∙ ap number_of c.in-Done.is in
+    let number : block_number (s) (b) ≡ 0 = sym c.decoder_refusal.ensures ∙ ap number_of c.in_ok-decoder_refusal.was in
     let passed : block_number (s) (b) ≡ 0 = number in
     let text : List ℕ = tidy_text (s) (b) in
     let short : length text ≤ longest_tidy_text = tidy-length (s) (b) passed in
@@ -40,11 +40,11 @@ slice_bounds-copy-end c =
     let long : c.compose-length.result ≡ length text = c.compose-length.ensures.next-is ∙ zero-add (length text) in
     long ∙ sym (ap length (composed))
 
-pub returns-else-room-length-clause-text_after : goal.returns-else-room-length-clause-text_after
-returns-else-room-length-clause-text_after c =
+pub returns-clause-text_after : goal.returns-clause-text_after
+returns-clause-text_after c =
     let b : Block = block_of c.args.mask.now c.args.llr.now in
     let s : Settings = c.args.settings in
-    let number : block_number (s) (b) ≡ 0 = sym c.decoder_refusal.ensures ∙ ap number_of c.in-Done.is in
+    let number : block_number (s) (b) ≡ 0 = sym c.decoder_refusal.ensures ∙ ap number_of c.in_ok-decoder_refusal.was in
     let passed : block_number (s) (b) ≡ 0 = number in
     let text : List ℕ = tidy_text (s) (b) in
     let short : length text ≤ longest_tidy_text = tidy-length (s) (b) passed in

@@ -15,40 +15,40 @@ use Rattle.tidy_text.specs.Tidy.{tidy_of, tidy}
 use Rattle.tidy_text.proofs.tidy.Goals as goal
 
 pub refused-requires : goal.refused-requires
-refused-requires c = omega (arith, refusal-length c.in-Refused.refusal)
+refused-requires c = omega (arith, refusal-length c.in-Err.refusal)
 
 pub written-requires-clause-llr_value : goal.written-requires-clause-llr_value
 written-requires-clause-llr_value c =
-    let s : Settings = c.in-Accepted.settings in
+    let s : Settings = c.in-Ok.settings in
     let slices : Block = block_of c.read.new.mask c.read.new.llr in
     let text : AcceptedText (meaning c.args.text.now) s (first_of (2 ^ s.m) (slices)) =
-    accepted-text c.args.text.now cleared-long c.read.ensures c.in-Accepted.is refl in
+    accepted-text c.args.text.now cleared-long c.read.ensures c.in-Ok.is refl in
     let number : block_number s (slices) ≡ 0 = sym (first-number s (slices)) ∙ text.fit.number in
     (number)
 
-pub returns-in-Refused-clause-wrote : goal.returns-in-Refused-clause-wrote
+pub returns-in-Err-clause-wrote : goal.returns-in-Err-clause-wrote
 unfolding tidy
-returns-in-Refused-clause-wrote c =
+returns-in-Err-clause-wrote c =
     let a = c.args in
     let w = c.refused in
-    let means = refused-text a.text.now cleared-long c.read.ensures c.in-Refused.is in
+    let means = refused-text a.text.now cleared-long c.read.ensures c.in-Err.is in
     (subst (λ (text : List ℕ). Wrote a.out.now 0 text w.new.out w.result) (sym (ap tidy_of means)) w.ensures)
 
-pub returns-in-Refused-clause-within : goal.returns-in-Refused-clause-within
+pub returns-in-Err-clause-within : goal.returns-in-Err-clause-within
 unfolding tidy
-returns-in-Refused-clause-within c =
+returns-in-Err-clause-within c =
     let a = c.args in
     let w = c.refused in
-    let means = refused-text a.text.now cleared-long c.read.ensures c.in-Refused.is in
-    (wrote-within w.ensures (omega (arith, w.ensures.next-is, refusal-length c.in-Refused.refusal)))
+    let means = refused-text a.text.now cleared-long c.read.ensures c.in-Err.is in
+    (wrote-within w.ensures (omega (arith, w.ensures.next-is, refusal-length c.in-Err.refusal)))
 
-pub returns-in-Accepted-clause-wrote : goal.returns-in-Accepted-clause-wrote
+pub returns-in-Ok-clause-wrote : goal.returns-in-Ok-clause-wrote
 unfolding tidy
-returns-in-Accepted-clause-wrote c =
-    let s : Settings = c.in-Accepted.settings in
+returns-in-Ok-clause-wrote c =
+    let s : Settings = c.in-Ok.settings in
     let slices : Block = block_of c.read.new.mask c.read.new.llr in
     let text : AcceptedText (meaning c.args.text.now) s (first_of (2 ^ s.m) (slices)) =
-    accepted-text c.args.text.now cleared-long c.read.ensures c.in-Accepted.is refl in
+    accepted-text c.args.text.now cleared-long c.read.ensures c.in-Ok.is refl in
     let means : tidy_text s (slices) ≡ tidy_of (meaning c.args.text.now) =
     sym (tidy-first s (slices)) ∙ sym (ap tidy_of text.is) in
     let a = c.args in

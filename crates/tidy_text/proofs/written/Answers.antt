@@ -15,17 +15,17 @@ use Rattle.settings.specs.declared.Settings.{Settings}
 use Rattle.tidy_text.proofs.written.Goals as goal
 
 pub refused-requires : goal.refused-requires
-refused-requires c = omega (arith, refusal-length c.in-Refused.refusal, c.requires.longest_tidy_text_in_bounds)
+refused-requires c = omega (arith, refusal-length c.in-Err.refusal, c.requires.longest_tidy_text_in_bounds)
 
-pub returns-in-Length-clause-wrote : goal.returns-in-Length-clause-wrote
-returns-in-Length-clause-wrote c =
+pub returns-in-Ok-clause-wrote : goal.returns-in-Ok-clause-wrote
+returns-in-Ok-clause-wrote c =
     let b : Block = block_of c.args.mask.now c.args.llr.now in
     let old : List ℕ = c.args.out.now in
     let s : Settings = c.args.settings in
     let fits : length (tidy_text s b) ≤ length old =
     omega (arith, tidy-length s b c.requires.llr_value, c.requires.longest_tidy_text_in_bounds) in
     let text = tidy_text (s) (b) in
-    let long = (answered-written (s) (b) (old) c.write.result c.write.ensures.result_value c.in-Length.is).1 in
+    let long = (answered-written (s) (b) (old) c.write.result c.write.ensures.result_value c.in-Ok.is).1 in
     (record {
       new_is =
           c.write.ensures.text_after ∙ sym (written-text (s) (b) (old) c.requires.llr_value (fits))
@@ -33,35 +33,35 @@ returns-in-Length-clause-wrote c =
       next-is = long ∙ sym (zero-add (length text));
     })
 
-pub returns-in-Length-clause-upper_bound : goal.returns-in-Length-clause-upper_bound
-returns-in-Length-clause-upper_bound c =
+pub returns-in-Ok-clause-upper_bound : goal.returns-in-Ok-clause-upper_bound
+returns-in-Ok-clause-upper_bound c =
     let b : Block = block_of c.args.mask.now c.args.llr.now in
     let old : List ℕ = c.args.out.now in
     let s : Settings = c.args.settings in
     let fits : length (tidy_text s b) ≤ length old =
     omega (arith, tidy-length s b c.requires.llr_value, c.requires.longest_tidy_text_in_bounds) in
     let text = tidy_text (s) (b) in
-    let long = (answered-written (s) (b) (old) c.write.result c.write.ensures.result_value c.in-Length.is).1 in
+    let long = (answered-written (s) (b) (old) c.write.result c.write.ensures.result_value c.in-Ok.is).1 in
     (rw long (tidy-length (s) (b) c.requires.llr_value))
 
-pub returns-in-Refused-clause-wrote : goal.returns-in-Refused-clause-wrote
-returns-in-Refused-clause-wrote c =
+pub returns-in-Err-clause-wrote : goal.returns-in-Err-clause-wrote
+returns-in-Err-clause-wrote c =
     let b : Block = block_of c.args.mask.now c.args.llr.now in
     let old : List ℕ = c.args.out.now in
     let s : Settings = c.args.settings in
     let fits : length (tidy_text s b) ≤ length old =
     omega (arith, tidy-length s b c.requires.llr_value, c.requires.longest_tidy_text_in_bounds) in
     let none = written-number s b old c.requires.llr_value fits in
-    let number = answered-refused s b old c.write.result c.write.ensures.result_value c.in-Refused.is in
-    absurd (refusal-positive c.in-Refused.refusal (sym none ∙ number))
+    let number = answered-refused s b old c.write.result c.write.ensures.result_value c.in-Err.is in
+    absurd (refusal-positive c.in-Err.refusal (sym none ∙ number))
 
-pub returns-in-Refused-clause-upper_bound : goal.returns-in-Refused-clause-upper_bound
-returns-in-Refused-clause-upper_bound c =
+pub returns-in-Err-clause-upper_bound : goal.returns-in-Err-clause-upper_bound
+returns-in-Err-clause-upper_bound c =
     let b : Block = block_of c.args.mask.now c.args.llr.now in
     let old : List ℕ = c.args.out.now in
     let s : Settings = c.args.settings in
     let fits : length (tidy_text s b) ≤ length old =
     omega (arith, tidy-length s b c.requires.llr_value, c.requires.longest_tidy_text_in_bounds) in
     let none = written-number s b old c.requires.llr_value fits in
-    let number = answered-refused s b old c.write.result c.write.ensures.result_value c.in-Refused.is in
-    absurd (refusal-positive c.in-Refused.refusal (sym none ∙ number))
+    let number = answered-refused s b old c.write.result c.write.ensures.result_value c.in-Err.is in
+    absurd (refusal-positive c.in-Err.refusal (sym none ∙ number))
