@@ -1,86 +1,66 @@
 // The channel front's blocks: the three kinds, with halves and both zeros, then its refusals.
 // The text of a line says what the samples are; an LLR slice is longer than its 2^m elements where a line ends in 9.
-use channel::Channel;
+ghost use Rattle.std.specs.Prelude.{◌≤◌};
 
-// One call of the front, on the samples that the line has named: m and C, the answer, and the LLRs afterwards.
-fn front(
-    rt: &HostRuntime,
+use crate::say;
+use channel::Channel;
+use std::io;
+
+// One call of the front, on the samples that the text names: m and C, its answer, and the N LLRs afterwards.
+fn front<const N: usize, R: Print>(
+    rt: &R,
+    text: &str,
     m: u32,
     ceiling: u32,
     channel: Channel,
     samples: &[f32],
-    llr: &mut [i16],
-) {
-    console::number(rt, b" m=", m);
-    console::number(rt, b" C=", ceiling);
-    console::answer(rt, channel::front(m, ceiling, channel, samples, llr));
-    console::values(rt, b" llr", llr);
-    console::text(rt, b"\n");
+) -> io::Result<()>
+    requires { N ≤ 10 }
+{
+    let mut llr = [9; N];
+    print!(rt; "front {text} m={m} C={ceiling}")?;
+    console::answer(rt, channel::front(m, ceiling, channel, samples, &mut llr));
+    say::lent(rt, "llr", &llr)
 }
 
-// Two values that no literal writes.
-pub fn infinity() -> f32 {
-    f32::from_bits(0x7f80_0000)
-}
-
-pub fn not_a_number() -> f32 {
-    infinity() - infinity()
-}
-
-pub fn gaussian(rt: &HostRuntime) {
-    console::text(rt, b"front gaussian 1.5 samples 1 -1");
-    let mut paper = [9i16; 3];
-    front(rt, 1, 31, Channel::Gaussian(1.5), &[1.0, -1.0], &mut paper);
-    let halves = [0.5f32, -0.5, 2.5, -2.5, 0.0, -0.0, 30.5, 0.499];
-    console::text(
-        rt,
-        b"front gaussian 1 samples 0.5 -0.5 2.5 -2.5 0 -0 30.5 0.499",
-    );
-    let mut half = [9i16; 8];
-    front(rt, 3, 31, Channel::Gaussian(1.0), &halves, &mut half);
+pub fn gaussian(rt: &impl Print) -> io::Result<()> {
+    let paper = "gaussian 1.5 samples 1 -1";
+    front::<3, _>(rt, paper, 1, 31, Channel::Gaussian(1.5), &[1.0, -1.0])?;
+    let halves = [0.5, -0.5, 2.5, -2.5, 0.0, -0.0, 30.5, 0.499];
+    let text = "gaussian 1 samples 0.5 -0.5 2.5 -2.5 0 -0 30.5 0.499";
+    front::<8, _>(rt, text, 3, 31, Channel::Gaussian(1.0), &halves)
 }
 
 // Either zero gives 0. A NaN behind the block is not read.
-pub fn signs(rt: &HostRuntime) {
-    let samples = [0.1f32, -7.0, 0.0, -0.0, not_a_number()];
-    console::text(rt, b"front flipping 2.5 samples 0.1 -7 0 -0 (nan)");
-    let mut flipped = [9i16; 5];
-    front(rt, 2, 31, Channel::Flipping(2.5), &samples, &mut flipped);
-    console::text(rt, b"front erasing samples 0.1 -7 0 -0 (nan)");
-    let mut erased = [9i16; 5];
-    front(rt, 2, 31, Channel::Erasing, &samples, &mut erased);
-}
-
-// The erasing channel on two samples, with room for one LLR.
-fn erasing(rt: &HostRuntime, m: u32, ceiling: u32) {
-    console::text(rt, b"front erasing samples 1 -1");
-    let mut llr = [9i16; 1];
-    front(rt, m, ceiling, Channel::Erasing, &[1.0, -1.0], &mut llr);
+pub fn signs(rt: &impl Print) -> io::Result<()> {
+    let samples = [0.1, -7.0, 0.0, -0.0, f32::NAN];
+    let flipping = "flipping 2.5 samples 0.1 -7 0 -0 (nan)";
+    front::<5, _>(rt, flipping, 2, 31, Channel::Flipping(2.5), &samples)?;
+    let erasing = "erasing samples 0.1 -7 0 -0 (nan)";
+    front::<5, _>(rt, erasing, 2, 31, Channel::Erasing, &samples)
 }
 
 // 1 and 2, though 7 would apply as well; 7, though a factor of 0 would be refused with 11.
-pub fn refused_settings(rt: &HostRuntime) {
-    erasing(rt, 11, 31);
-    erasing(rt, 1, 0);
-    console::text(rt, b"front gaussian 0 samples 1 -1 1");
-    let mut llr = [9i16; 4];
-    front(
+pub fn refused_settings(rt: &impl Print) -> io::Result<()> {
+    let erasing = "erasing samples 1 -1";
+    front::<1, _>(rt, erasing, 11, 31, Channel::Erasing, &[1.0, -1.0])?;
+    front::<1, _>(rt, erasing, 1, 0, Channel::Erasing, &[1.0, -1.0])?;
+    let gaussian = "gaussian 0 samples 1 -1 1";
+    front::<4, _>(
         rt,
+        gaussian,
         2,
         31,
         Channel::Gaussian(0.0),
         &[1.0, -1.0, 1.0],
-        &mut llr,
-    );
+    )
 }
 
 // 11, a factor that is not above zero, with a sample that is not finite either; then that sample alone, 12.
-pub fn refused_channel(rt: &HostRuntime) {
-    let samples = [infinity(), 1.0];
-    console::text(rt, b"front gaussian 0 samples inf 1");
-    let mut zero = [9i16; 2];
-    front(rt, 1, 31, Channel::Gaussian(0.0), &samples, &mut zero);
-    console::text(rt, b"front gaussian 1 samples inf 1");
-    let mut one = [9i16; 3];
-    front(rt, 1, 31, Channel::Gaussian(1.0), &samples, &mut one);
+pub fn refused_channel(rt: &impl Print) -> io::Result<()> {
+    let samples = [f32::INFINITY, 1.0];
+    let zero = "gaussian 0 samples inf 1";
+    front::<2, _>(rt, zero, 1, 31, Channel::Gaussian(0.0), &samples)?;
+    let one = "gaussian 1 samples inf 1";
+    front::<3, _>(rt, one, 1, 31, Channel::Gaussian(1.0), &samples)
 }

@@ -1,119 +1,73 @@
 // The blocks of the front for two antennas: its cut and its roundings, then its refusals.
-// The text of a line says what the samples are; an LLR slice is longer than its 2^m elements where a line ends in 9.
-use crate::front;
-use antennas::Receiver;
+// The text of a line says what the factors and the samples are; an LLR slice is longer than its 2^m elements where a
+// line ends in 9.
+ghost use Rattle.std.specs.Prelude.{◌≤◌};
 
-// One call of the front, on the samples that the line has named: m and C, the answer, and the LLRs afterwards.
-fn front_two(
-    rt: &HostRuntime,
+use crate::say;
+use antennas::Receiver;
+use std::io;
+
+// One call of the front, on what the text names: m and C, its answer, and the N LLRs afterwards.
+fn front_two<const N: usize, R: Print>(
+    rt: &R,
+    text: &str,
     m: u32,
     ceiling: u32,
     receiver: Receiver,
     first: &[f32],
     second: &[f32],
-    llr: &mut [i16],
-) {
-    console::number(rt, b" m=", m);
-    console::number(rt, b" C=", ceiling);
-    console::answer(
-        rt,
-        antennas::front_two(m, ceiling, receiver, first, second, llr),
-    );
-    console::values(rt, b" llr", llr);
-    console::text(rt, b"\n");
+) -> io::Result<()>
+    requires { N ≤ 10 }
+{
+    let mut llr = [9; N];
+    print!(rt; "front_two {text} m={m} C={ceiling}")?;
+    let answer = antennas::front_two(m, ceiling, receiver, first, second, &mut llr);
+    console::answer(rt, answer);
+    say::lent(rt, "llr", &llr)
 }
 
-fn plain() -> Receiver {
-    Receiver {
-        first: 1.0,
-        second: 1.0,
-    }
+fn receiver(first: f32, second: f32) -> Receiver {
+    Receiver { first, second }
 }
 
 // Each factor is its own branch's, and halves of the sum go away from zero. A NaN behind the block is not read.
-pub fn sums(rt: &HostRuntime) {
-    let first = [1.0f32, 0.0, 0.25, -0.25, front::not_a_number()];
-    let second = [0.0f32, -1.0, 0.125, -0.125];
-    console::text(
-        rt,
-        b"front_two 1 2 samples 1 0 0.25 -0.25 (nan), 0 -1 0.125 -0.125",
-    );
-    let mut llr = [9i16; 5];
-    front_two(
-        rt,
-        2,
-        31,
-        Receiver {
-            first: 1.0,
-            second: 2.0,
-        },
-        &first,
-        &second,
-        &mut llr,
-    );
+pub fn sums(rt: &impl Print) -> io::Result<()> {
+    let text = "1 2 samples 1 0 0.25 -0.25 (nan), 0 -1 0.125 -0.125";
+    let first = [1.0, 0.0, 0.25, -0.25, f32::NAN];
+    let second = [0.0, -1.0, 0.125, -0.125];
+    front_two::<5, _>(rt, text, 2, 31, receiver(1.0, 2.0), &first, &second)
 }
 
 // Products are cut at 4096 before they are added, also those too large for the format: opposite ones give 0.
-pub fn cuts(rt: &HostRuntime) {
-    console::text(
+pub fn cuts(rt: &impl Print) -> io::Result<()> {
+    let cut = "1 1 samples 100000 3000 -100000 100000, -4095 -2990 1 -100000";
+    let first = [100000.0, 3000.0, -100000.0, 100000.0];
+    let second = [-4095.0, -2990.0, 1.0, -100000.0];
+    front_two::<4, _>(rt, cut, 2, 31, receiver(1.0, 1.0), &first, &second)?;
+    let largest = "3e38 3e38 samples 3e38 3e38, -3e38 3e38";
+    let first = [3.0e38, 3.0e38];
+    let second = [-3.0e38, 3.0e38];
+    front_two::<2, _>(
         rt,
-        b"front_two 1 1 samples 100000 3000 -100000 100000, -4095 -2990 1 -100000",
-    );
-    let first = [100000.0f32, 3000.0, -100000.0, 100000.0];
-    let second = [-4095.0f32, -2990.0, 1.0, -100000.0];
-    let mut llr = [9i16; 4];
-    front_two(rt, 2, 31, plain(), &first, &second, &mut llr);
-    console::text(rt, b"front_two 3e38 3e38 samples 3e38 3e38, -3e38 3e38");
-    let largest = Receiver {
-        first: 3.0e38,
-        second: 3.0e38,
-    };
-    let mut over = [9i16; 2];
-    front_two(
-        rt,
+        largest,
         1,
         31,
-        largest,
-        &[3.0e38, 3.0e38],
-        &[-3.0e38, 3.0e38],
-        &mut over,
-    );
+        receiver(3.0e38, 3.0e38),
+        &first,
+        &second,
+    )
 }
 
 // 1, 2 and 7, of the second branch; 11, of the second factor; 12, of the second branch.
-pub fn refused(rt: &HostRuntime) {
-    let infinite = [1.0f32, front::infinity()];
-    let mut llr = [9i16; 3];
-    console::text(rt, b"front_two 1 1 samples 1 1, 1 inf");
-    front_two(rt, 11, 31, plain(), &[1.0, 1.0], &infinite, &mut llr);
-    console::text(rt, b"front_two 1 1 samples 1 1, 1 inf");
-    front_two(rt, 1, 2048, plain(), &[1.0, 1.0], &infinite, &mut llr);
-    console::text(rt, b"front_two 1 0 samples 1 1, 1");
-    front_two(
-        rt,
-        1,
-        31,
-        Receiver {
-            first: 1.0,
-            second: 0.0,
-        },
-        &[1.0, 1.0],
-        &[1.0],
-        &mut llr,
-    );
-    console::text(rt, b"front_two 1 0 samples 1 1, 1 inf");
-    front_two(
-        rt,
-        1,
-        31,
-        Receiver {
-            first: 1.0,
-            second: 0.0,
-        },
-        &[1.0, 1.0],
-        &infinite,
-        &mut llr,
-    );
-    console::text(rt, b"front_two 1 1 samples 1 1, 1 inf");
-    front_two(rt, 1, 31, plain(), &[1.0, 1.0], &infinite, &mut llr);
+pub fn refused(rt: &impl Print) -> io::Result<()> {
+    let plain = receiver(1.0, 1.0);
+    let zero = receiver(1.0, 0.0);
+    let ones = [1.0, 1.0];
+    let infinite = [1.0, f32::INFINITY];
+    let text = "1 1 samples 1 1, 1 inf";
+    front_two::<3, _>(rt, text, 11, 31, plain, &ones, &infinite)?;
+    front_two::<3, _>(rt, text, 1, 2048, plain, &ones, &infinite)?;
+    front_two::<3, _>(rt, "1 0 samples 1 1, 1", 1, 31, zero, &ones, &[1.0])?;
+    front_two::<3, _>(rt, "1 0 samples 1 1, 1 inf", 1, 31, zero, &ones, &infinite)?;
+    front_two::<3, _>(rt, text, 1, 31, plain, &ones, &infinite)
 }

@@ -1,133 +1,101 @@
-// What the programs read and print with: a text from standard input; texts, whole numbers, slices and the number of an
-// answer to standard output.
-// It sees `calls`, `format` for the size of a number, and the standard streams.
-// Proved: every function ends, and stays within its memory; a read that comes later leaves the bytes of the earlier
-// ones; `read_text` counts bytes of its slice.
-// By inspection and test: that the bytes in memory are those of standard input, in their order and to its end (of the
-// bytes that a read brings its contract says nothing), that what is handed to standard output arrives, and the lines on
-// standard error. The tests compare what the programs write with stored outputs.
+// What the programs read and print with: a text from standard input, made into another, to standard output; the
+// elements of a slice; the number of an answer.
+// It sees `calls` and the standard streams.
+// Proved: every function ends, and stays within its memory; of a reader whose bytes are known, the bytes that
+// `read_all` counts are the next of them, in their order, and where there was room for more they are all; `read_text`
+// counts bytes of its slice.
+// By inspection and test: that standard input is such a reader, that what is handed to standard output arrives, and the
+// lines on standard error. The tests compare what the programs write with stored outputs.
 #![tactic(auto)]
 
-ghost use Rattle.std.specs.Prelude.{◌≡◌, ◌-◌, ◌≤◌, nat_abs, length, take};
-ghost use Rattle.console.specs.Reads.{IsPrefixLen, GotAtMost};
+ghost use Rattle.std.specs.Prelude.{◌≡◌, ℕ, ◌<◌, ◌≤◌, IfOk, length, take};
+ghost use Rattle.std.specs.Io.KnownBytes.{Consumes, IsAtEnd};
+ghost use Rattle.std.specs.Counts.{IsPrefixLen};
 
-use calls::Answer;
-use std::io::{Print, Read};
+use calls::Refusal;
+use std::convert::AsSlice;
+use std::fmt::Display;
+use std::io::{Eprint, Input, Print, Read};
+use std::{fmt, io};
 
-// What one read gives; no bytes at the end of the input.
-#[derive(Clone, Copy)]
-pub enum Got {
-    Bytes(usize),
-    Failed,
-}
-
-// One read behind the first n bytes, which it leaves as they were.
-fn read_behind(rt: &HostRuntime, text: &mut [u8], n: usize) -> Got
-    requires { n ≤ length text.old }
-    ensures got_at_most { GotAtMost (length text.old - n) result }
-    ensures text_unchanged { take n text.new ≡ take n text.old }
+// The bytes of a reader to its end, or as many as the slice has room for: how many that is.
+#[tactic(auto, using(crate::proofs::Reading::reading))]
+fn read_all<R: Read>(input: &mut R, text: &mut [u8]) -> io::Result<usize>
+    ensures within { IfOk result (λ n. n ≤ length text.new) }
+    ensures bytes { IfOk result (λ n.
+        Consumes (R.remaining input.old) (R.remaining input.new) (take n text.new)) }
+    ensures end { IfOk result (λ n. n < length text.new → IsAtEnd (R.remaining input.new)) }
 {
-    let mut input = rt.stdin();
-    match input.read(&mut text[n..]) {
-        Ok(got) => Got::Bytes(got),
-        Err(_) => Got::Failed,
+    let mut n = 0;
+    while n < text.len() {
+        let more = input.read(&mut text[n..])?;
+        if more == 0 {
+            return Ok(n);
+        }
+        n += more;
     }
+    Ok(n)
 }
 
 // On standard error: the program's name, and what went wrong.
-fn complain(rt: &HostRuntime, program: &[u8], what: &[u8]) {
-    let errors = rt.stderr();
-    let _ = Print::write_all(&errors, program);
-    let _ = Print::write_all(&errors, what);
+fn complain(rt: &impl Eprint, program: &str, what: &str) {
+    let _ = eprintln!(rt; "{program}: {what}");
 }
 
 // The text to its end, or as much of it as the slice has room for, and how many bytes that is. A read that fails leaves
 // no text.
-pub fn read_text(rt: &HostRuntime, program: &[u8], text: &mut [u8]) -> usize
+pub fn read_text(rt: &(impl Input + Eprint), program: &str, text: &mut [u8]) -> usize
     ensures { IsPrefixLen result text.new }
 {
-    let mut n = 0;
-    while n < text.len() {
-        let got = read_behind(rt, text, n);
-        let Got::Bytes(more) = got else {
-            complain(rt, program, b": standard input can't be read\n");
-            return 0;
-        };
-        if more == 0 {
-            return n;
+    match read_all(&mut rt.reader(), text) {
+        Ok(n) => n,
+        Err(_) => {
+            complain(rt, program, "standard input can't be read");
+            0
         }
-        n += more;
     }
-    n
 }
 
 // The whole outcome of a program.
-pub fn write_text(rt: &HostRuntime, program: &[u8], bytes: &[u8]) {
+pub fn write_text(rt: &(impl Print + Eprint), program: &str, bytes: &[u8]) {
     if rt.write_all(bytes).is_err() {
-        complain(rt, program, b": standard output can't be written\n");
+        complain(rt, program, "standard output can't be written");
     }
 }
 
-// A piece of the output of a program whose stored output would show what is missing, so a failure isn't said.
-pub fn text(rt: &HostRuntime, bytes: &[u8]) {
-    let _ = rt.write_all(bytes);
+// The elements of a slice, each after a space.
+#[derive(Drop)]
+pub struct Spaced<'a, T>(pub &'a [T]);
+
+impl<T: Display> Display for Spaced<'_, T> {
+    fn fmt<W: fmt::Write>(&self, f: &mut fmt::Formatter<W>) -> fmt::Result {
+        for element in self.0 {
+            write!(f, " {element}")?;
+        }
+        Ok(())
+    }
 }
 
-// A number behind its name.
-pub fn number(rt: &HostRuntime, name: &[u8], n: u32) {
-    text(rt, name);
-    let _ = rt.print(n);
+// The number of the answer of the coder, the front or the read-out: 0 where it is done. A write that fails isn't said,
+// since a program's stored output shows what is missing.
+pub fn answer(rt: &impl Print, answer: Result<(), Refusal>) {
+    let number = calls::number(answer);
+    let _ = print!(rt; " answer {number}");
 }
 
-fn byte(rt: &HostRuntime, b: u8) {
-    number(rt, b" ", b as u32);
-}
-
-// The size of every 16-bit number, the least included.
-fn size(value: i16) -> u16
-    ensures { result ≡ nat_abs value }
+// A program that makes one text of another: the text from standard input, in the slice that is lent for it, and what
+// the function writes of it at the start of the array to standard output. No clause speaks of what is read and written:
+// that the function is handed the one, and the other handed on, is in the three lines.
+pub fn filter<R, B, F>(rt: &R, program: &str, text: &mut [u8], out: &mut B, write: F)
+where
+    R: Input + Print + Eprint,
+    B: AsSlice<u8>,
+    F: FnOnce(&[u8], &mut B) -> usize,
+    requires callable { F.IsAlwaysCallable write }
+    requires within { (read lent : _) (n : ℕ) (left : _) → F.post write read lent n left
+        → n ≤ length (B.items left.now) }
 {
-    format::size(value as i32) as u16
-}
-
-// A space and the value, with a minus where it is negative.
-fn value(rt: &HostRuntime, value: i16) {
-    if value < 0 {
-        number(rt, b" -", size(value) as u32);
-    } else {
-        number(rt, b" ", size(value) as u32);
-    }
-}
-
-// The elements of a slice, each behind a space.
-fn each_byte(rt: &HostRuntime, slice: &[u8]) {
-    let mut i = 0;
-    while i < slice.len() {
-        byte(rt, slice[i]);
-        i += 1;
-    }
-}
-
-fn each_value(rt: &HostRuntime, slice: &[i16]) {
-    let mut i = 0;
-    while i < slice.len() {
-        value(rt, slice[i]);
-        i += 1;
-    }
-}
-
-// A slice behind its name.
-pub fn bytes(rt: &HostRuntime, name: &[u8], slice: &[u8]) {
-    text(rt, name);
-    each_byte(rt, slice);
-}
-
-pub fn values(rt: &HostRuntime, name: &[u8], slice: &[i16]) {
-    text(rt, name);
-    each_value(rt, slice);
-}
-
-// The number of the answer of the coder, the front or the read-out: 0 where it is done.
-pub fn answer(rt: &HostRuntime, answer: Answer) {
-    number(rt, b" answer ", calls::number(answer));
+    let n = read_text(rt, program, text);
+    let length = write(&text[..n], out);
+    write_text(rt, program, &out.as_slice()[..length]);
 }

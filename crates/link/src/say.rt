@@ -1,30 +1,27 @@
 // What only this program prints: the decoder's answer and its settings.
-use calls::Answer;
-use decoder::Outcome;
+use calls::Refusal;
+use decoder::Ending;
 use settings::Settings;
+use std::io;
 
 // The decoder's answer: the iteration and the reason, or the number of its refusal.
-pub fn outcome(rt: &HostRuntime, outcome: Outcome) {
+pub fn outcome(rt: &impl Print, outcome: Result<Ending, Refusal>) -> io::Result<()> {
     match outcome {
-        Outcome::Ended(iterations, why) => {
-            console::number(rt, b" answer ", iterations);
-            console::number(rt, b" ", decoder::reason_number(why));
-        }
-        Outcome::Refused(refusal) => {
-            console::number(
-                rt,
-                b" answer refused ",
-                calls::number(Answer::Refused(refusal)),
-            );
-        }
+        Ok(Ending { iterations, reason }) => print!(rt;
+            " answer {iterations} {}",
+            decoder::reason_number(reason)
+        ),
+        Err(refusal) => print!(rt; " answer refused {}", calls::refusal_number(refusal)),
     }
 }
 
-pub fn settings(rt: &HostRuntime, settings: Settings) {
-    console::number(rt, b" m=", settings.m);
-    console::number(rt, b" C=", settings.ceiling);
-    console::number(rt, b" k=", settings.scale);
-    console::number(rt, b" T=", settings.limit);
-    console::number(rt, b" criterion ", settings.criterion);
-    console::number(rt, b" operand ", settings.operand);
+pub fn settings(rt: &impl Print, settings: Settings) -> io::Result<()> {
+    print!(rt;
+        " m={} C={} k={} T={}",
+        settings.m, settings.ceiling, settings.scale, settings.limit
+    )?;
+    print!(rt;
+        " criterion {} operand {}",
+        settings.criterion, settings.operand
+    )
 }

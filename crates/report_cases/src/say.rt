@@ -1,39 +1,33 @@
 // A text through the report: its name, and the report's output as it stands.
-ghost use Rattle.std.specs.Prelude.{◌≤◌, length};
-
+use arrayvec::ArrayString;
 use report_text::REPORT_ROOM;
+use std::fmt::Write;
+use std::io;
 
 // A whole text, behind a line that says what it shows.
-pub fn report(rt: &HostRuntime, about: &[u8], text: &[u8]) {
-    let mut out = [0u8; REPORT_ROOM];
-    console::text(rt, about);
-    console::text(rt, b"\n");
-    let end = report_text::report(text, &mut out);
-    console::text(rt, &out[..end]);
+pub fn report(rt: &impl Print, about: &str, text: &str) -> io::Result<()> {
+    let mut out = [0; REPORT_ROOM];
+    println!(rt; "{about}")?;
+    let end = report_text::report(text.as_bytes(), &mut out);
+    rt.write_all(&out[..end])
 }
 
 // A text with both lines of names: its line of settings and the lines of its positions are handed in.
-pub fn block(rt: &HostRuntime, about: &[u8], settings: &[u8], positions: &[u8])
-    requires { (length settings.now ≤ 100) × (length positions.now ≤ 300) }
-{
-    let mut text = [0u8; 512];
-    let end = format::copy(&mut text, 0, b"m ceiling scale limit criterion operand\n");
-    let end = format::copy(&mut text, end, settings);
-    let end = format::copy(&mut text, end, b"\nposition frozen llr\n");
-    let end = format::copy(&mut text, end, positions);
-    report(rt, about, &text[..end]);
+pub fn block(rt: &impl Print, about: &str, settings: &str, positions: &str) -> io::Result<()> {
+    let mut text = ArrayString::<512>::new();
+    write!(
+        text,
+        "m ceiling scale limit criterion operand\n{settings}\nposition frozen llr\n{positions}"
+    )?;
+    report(rt, about, text.as_str())
 }
 
 // Document 01's positions with other settings.
-pub fn settings(rt: &HostRuntime, about: &[u8], settings: &[u8])
-    requires { length settings.now ≤ 100 }
-{
-    block(rt, about, settings, b"0 1 5\n1 0 -3\n");
+pub fn settings(rt: &impl Print, about: &str, settings: &str) -> io::Result<()> {
+    block(rt, about, settings, "0 1 5\n1 0 -3\n")
 }
 
 // Document 01's settings with other positions.
-pub fn positions(rt: &HostRuntime, about: &[u8], positions: &[u8])
-    requires { length positions.now ≤ 300 }
-{
-    block(rt, about, b"1 31 16 10 1 0", positions);
+pub fn positions(rt: &impl Print, about: &str, positions: &str) -> io::Result<()> {
+    block(rt, about, "1 31 16 10 1 0", positions)
 }
