@@ -14,14 +14,12 @@ use Rattle.settings.specs.declared.Settings.{Settings}
 use Rattle.settings.specs.Settings.{settings_number}
 use Rattle.settings.specs.SettingsLaws.{settings-accepted, operand-least}
 use Rattle.settings.specs.Slices.{Slices}
-use Rattle.decoder.specs.declared.Outcome.{Outcome}
-use Rattle.decoder.specs.Decoder.{Ending, Result, result_of, after, ending, outputs_of, call_number, Decoded}
+use Rattle.decoder.specs.Decoder.{Outcome, Ending, Result, result_of, after, ending, outputs_of, call_number, Decoded}
 use Rattle.decoder.specs.ResultLaws.{result-same}
 use Rattle.tally.specs.declared.Tally.{Tally}
 use Rattle.tally.specs.declared.Tallied.{Tallied}
 use Rattle.tally.specs.Tally.{tally_number, answer_by, tally_by, TalliedDecode}
 use Rattle.radios.specs.declared.Radios.{Radios}
-use Rattle.radios.specs.declared.RadioTallied.{RadioTallied}
 use Rattle.radios.specs.Radios.{radio_call_number, tallies_counted, RadioDecode}
 use Rattle.scan.specs.Reading.{Reading, found, malformed}
 use Rattle.report_input.specs.Input.{
@@ -89,7 +87,7 @@ module _ (s : Settings) (mask : List ℕ) (llr : List ℤ) (lent : Slices) where
   )
 
   -- any two tallied calls that are handed the same tally
-  pub tallied-agrees : {t : Tally} {new new' : Slices} {r r' : Tallied}
+  pub tallied-agrees : {t : Tally} {new new' : Slices} {r r' : Tallied Tally}
       → TalliedDecode t (under 4 s) mask llr lent new r → TalliedDecode t (under 2 s) mask llr lent new' r'
       → (result_of r.outcome ≡ result_of r'.outcome) × (r.tally ≡ r'.tally) × (new ≡ new')
   tallied-agrees {t} four two = (
@@ -101,10 +99,10 @@ module _ (s : Settings) (mask : List ℕ) (llr : List ℤ) (lent : Slices) where
   )
 
   -- any two calls for the same radio that are handed the same tallies: all 64 come back the same
-  pub radio-agrees : {radio : ℕ} {radios : Radios} {new new' : Slices} {r r' : RadioTallied}
+  pub radio-agrees : {radio : ℕ} {radios : Radios} {new new' : Slices} {r r' : Tallied Radios}
       → RadioDecode radios radio (under 4 s) mask llr lent new r
       → RadioDecode radios radio (under 2 s) mask llr lent new' r'
-      → (result_of r.outcome ≡ result_of r'.outcome) × (r.radios.tallies ≡ r'.radios.tallies) × (new ≡ new')
+      → (result_of r.outcome ≡ result_of r'.outcome) × (r.tally.tallies ≡ r'.tally.tallies) × (new ≡ new')
   radio-agrees {radio} {radios} four two =
       let first = radio_call_number radio radios.tallies in (
         four.answer ∙ ap (answer_by first) criteria-agree.answer ∙ sym two.answer,

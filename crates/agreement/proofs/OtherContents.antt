@@ -12,8 +12,7 @@ use Rattle.calls.specs.LentMemoryLaws.{same-before-rest, none_written}
 use Rattle.calls.specs.Numbers.{first_refusal}
 use Rattle.settings.specs.declared.Settings.{Settings}
 use Rattle.settings.specs.Slices.{Slices}
-use Rattle.decoder.specs.declared.Outcome.{Outcome}
-use Rattle.decoder.specs.Decoder.{Ending, Result, refused, ended, result_of, result_by, ending, call_number}
+use Rattle.decoder.specs.Decoder.{Outcome, Ending, Result, refused, ended, result_of, result_by, ending, call_number}
 use Rattle.decoder.specs.Decoder.{decode_slices, Decoded}
 use Rattle.decoder.specs.SameDecoding.{SameSlices, SameDecoding}
 use Rattle.decoder.specs.SameDecodingLaws.{old-contents-unread, same-slices-first}
@@ -21,7 +20,6 @@ use Rattle.tally.specs.declared.Tally.{Tally}
 use Rattle.tally.specs.declared.Tallied.{Tallied}
 use Rattle.tally.specs.Tally.{tally_number, answer_by, tally_by, TalliedDecode}
 use Rattle.radios.specs.declared.Radios.{Radios}
-use Rattle.radios.specs.declared.RadioTallied.{RadioTallied}
 use Rattle.radios.specs.Radios.{radio_call_number, tallies_counted, RadioDecode}
 use Rattle.scan.specs.Reading.{Reading}
 use Rattle.report_text.specs.Report.{report}
@@ -64,7 +62,7 @@ module _ (s : Settings) (mask : List ℕ) (llr : List ℤ) (lent lent' : Slices)
       (same-slices-first first (call_number (under 4 s) mask llr lent) s.m lent lent' _ _ criteria-agree.slices)
 
   -- any two tallied calls that are handed the same tally
-  pub tallied-agrees : {t : Tally} {new new' : Slices} {r r' : Tallied}
+  pub tallied-agrees : {t : Tally} {new new' : Slices} {r r' : Tallied Tally}
       → TalliedDecode t (under 4 s) mask llr lent new r → TalliedDecode t (under 2 s) mask llr lent' new' r'
       → (result_of r.outcome ≡ result_of r'.outcome) × (r.tally ≡ r'.tally)
       × SameSlices (first_refusal (tally_number t) (call_number (under 4 s) mask llr lent)) s.m lent lent' new new'
@@ -75,10 +73,10 @@ module _ (s : Settings) (mask : List ℕ) (llr : List ℤ) (lent lent' : Slices)
   )
 
   -- any two calls for the same radio that are handed the same tallies: all 64 come back the same
-  pub radio-agrees : {radio : ℕ} {radios : Radios} {new new' : Slices} {r r' : RadioTallied}
+  pub radio-agrees : {radio : ℕ} {radios : Radios} {new new' : Slices} {r r' : Tallied Radios}
       → RadioDecode radios radio (under 4 s) mask llr lent new r
       → RadioDecode radios radio (under 2 s) mask llr lent' new' r'
-      → (result_of r.outcome ≡ result_of r'.outcome) × (r.radios.tallies ≡ r'.radios.tallies)
+      → (result_of r.outcome ≡ result_of r'.outcome) × (r.tally.tallies ≡ r'.tally.tallies)
       × SameSlices (first_refusal (radio_call_number radio radios.tallies) (call_number (under 4 s) mask llr lent))
       s.m lent lent' new new'
   radio-agrees {radio} {radios} four two =

@@ -4,14 +4,13 @@ use Prim.Native.Nat.{ℕ, suc, ◌+◌, ◌*◌, ◌≤◌}
 use mathlib.Core.Path.{◌≡◌, subst, sym, ap, ◌∙◌}
 use mathlib.Core.Bool.{true, false}
 use mathlib.Core.List.{List, ◌++◌}
-use borrow.Author.Tests.{ltb-true}
+use borrow.Author.Tests.{le-leb, ltb-true}
 use lib.Dec.{ltb}
 use lib.IntN.{ℤ}
 use lib.ListN.{length, set, take, drop}
 use Rattle.settings.specs.declared.Settings.{Settings}
 use Rattle.settings.specs.Slices.{Slices}
-use Rattle.decoder.specs.declared.Outcome.{Outcome}
-use Rattle.decoder.specs.Decoder.{Result, result_of, Decoded}
+use Rattle.decoder.specs.Decoder.{Outcome, Result, result_of, Decoded}
 use Rattle.tally.specs.declared.Tally.{Tally}
 use Rattle.tally.specs.declared.Tallied.{Tallied}
 use Rattle.tally.specs.Tally.{tally_number, tally_by, TalliedDecode}
@@ -25,6 +24,7 @@ use Rattle.vedrogne.specs.Interface.{
   tally_list,
   tallies_in,
   tallies_out,
+  settings_list_number,
   lists_number,
   radio_first_number,
   tallies_list_after,
@@ -63,6 +63,11 @@ module _ (first : ℕ) (settings mask : List ℕ) (llr : List ℤ) (before : Len
         lent_is = lent_same (d.slices ∙ rw h) (out.1.0 ∙ rw (h, d.answer)) (out.1.1 ∙ rw (h, d.answer));
       }
 
+-- both lists are long enough
+pub lists-accepted : (tallies settings : List ℕ) → tallies_length ≤ length tallies → settings_list_number settings ≡ 0
+    → lists_number tallies settings ≡ 0
+lists-accepted tallies settings long listed = rw (le-leb tallies_length (length tallies) long) listed
+
 module _ (radio : ℕ) (tallies settings mask : List ℕ) (llr : List ℤ) (before : Lent) where
   -- 7, for either list
   pub lists-refused : {number : ℕ} → lists_number tallies settings ≡ suc number
@@ -99,7 +104,7 @@ module _ (radio : ℕ) (tallies settings mask : List ℕ) (llr : List ℤ) (befo
           ∙ own-stored (tally_number own) radio (tallies_in tallies) answer)
           ∙ rw (lists, known)
 
-      module _ {tallies' : List ℕ} {x : Slices} {iterations reason r : ℕ} {o : Tallied}
+      module _ {tallies' : List ℕ} {x : Slices} {iterations reason r : ℕ} {o : Tallied Tally}
           (stored : tallies'
           ≡ take (tally_length * radio) tallies
           ++ tally_list o.tally

@@ -14,13 +14,10 @@ use Rattle.calls.specs.NumberLaws.{refused-keeps}
 use Rattle.format.specs.Wrote.{Wrote}
 use Rattle.settings.specs.declared.Settings.{Settings}
 use Rattle.settings.specs.Settings.{settings_list}
-use Rattle.report_input.specs.declared.Input.{Input}
-use Rattle.report_input.specs.declared.Input.TheVariants as input
+use Rattle.std.specs.Prelude.{Result, Ok, Err}
 use Rattle.report_input.specs.Input.{Block, Meaning, number_in, meaning_in, room_of, InputRead}
 use Rattle.report_input.specs.ReadLaws.{answered-accepted, answered-refused}
 use Rattle.report_text.specs.Report.{report_room}
-use Rattle.report_writer.specs.declared.Written.{Written}
-use Rattle.report_writer.specs.declared.Written.TheVariants as answers
 use Rattle.report_writer.specs.Writer.{write_number, write_answer, tidy_text, text_after}
 use Rattle.report_writer.specs.Writer as writer
 use Rattle.report_writer.specs.RoomLaws as writer-laws
@@ -36,7 +33,8 @@ use Rattle.vedrogne.specs.TextCalls.{
 
 -- ---- the reader
 
-module _ (settings text : List ℕ) {before after : Block} {r : Input} (long : settings_list_number settings ≡ 0)
+module _ (settings text : List ℕ) {before after : Block} {r : Result Settings Refusal}
+    (long : settings_list_number settings ≡ 0)
     (read : InputRead (meaning_in (room_of before) text) before after r) where
   abbrev means : Meaning
   means = meaning_in (room_of before) text
@@ -53,11 +51,11 @@ module _ (settings text : List ℕ) {before after : Block} {r : Input} (long : s
     block-is = read.after_is;
   })
 
-  pub read-refused : {refusal : Refusal} → r ≡ input.Refused refusal
+  pub read-refused : {refusal : Refusal} → r ≡ Err refusal
       → ReadCall (read_meaning settings before text) settings settings before after (refusal_number refusal)
   read-refused e = call (answered-refused means read e) refl
 
-  pub read-accepted : {s : Settings} {settings' : List ℕ} → r ≡ input.Accepted s
+  pub read-accepted : {s : Settings} {settings' : List ℕ} → r ≡ Ok s
       → settings' ≡ written_over (settings_list s) settings
       → ReadCall (read_meaning settings before text) settings settings' before after 0
   read-accepted e stored = call (answered-accepted means read e).1 stored
@@ -106,9 +104,9 @@ module _ (settings : List ℕ) (b : Block) (old : List ℕ) (long : settings_lis
   tested : write_call_number settings b (length old) ≡ number
   tested = rw long
 
-  module _ {new : List ℕ} (r : Written) {held : ℕ} (answer : writer.answer_of r ≡ write_answer s b old)
+  module _ {new : List ℕ} (r : Result ℕ Refusal) {held : ℕ} (answer : writer.answer_of r ≡ write_answer s b old)
       (after : new ≡ text_after s b old) where
-    pub write-refused : {refusal : Refusal} → r ≡ answers.Refused refusal
+    pub write-refused : {refusal : Refusal} → r ≡ Err refusal
         → TextCall (write_call_number settings b (length old)) text old new held held (refusal_number refusal)
     write-refused {refusal} e =
         let n = writer-laws.answered-refused s b old r answer e in
@@ -118,7 +116,7 @@ module _ (settings : List ℕ) (b : Block) (old : List ℕ) (long : settings_lis
           written_is = rw (tested, n) (sym (refused-keeps refusal _ held));
         }
 
-    pub write_done : {k : ℕ} → r ≡ answers.Length k
+    pub write_done : {k : ℕ} → r ≡ Ok k
         → TextCall (write_call_number settings b (length old)) text old new held k 0
     write_done e =
         let n = writer-laws.answered-written s b old r answer e in

@@ -11,7 +11,7 @@ use Rattle.tally.specs.declared.Tally.{Tally}
 use Rattle.tally.specs.Tally.{counted, answer_by}
 use Rattle.tally.specs.OldTallies.{old_tally_number}
 use Rattle.radios.specs.declared.Radios.{Radios}
-use Rattle.radios.specs.declared.RadioTallied.{RadioTallied}
+use Rattle.tally.specs.declared.Tallied.{Tallied}
 use Rattle.radios.specs.Radios.{radio_count, radio_number, tally_of, radio_call_number, tallies_counted, RadioDecode}
 use Rattle.radios.specs.RadioLaws.{tallies-length}
 use Rattle.radios.specs.OldTallyLaws.{old-tally-accepted}
@@ -74,13 +74,13 @@ module _ {radio : ℕ} {tallies tallies' settings mask : List ℕ} {llr : List �
 
     -- number, all that is lent and the list are what the method `decode` of `Radios` answers and leaves for the same
     -- tallies
-    pub radio-call-is-method : {radios : Radios} {new : Slices} {o : RadioTallied}
+    pub radio-call-is-method : {radios : Radios} {new : Slices} {o : Tallied Radios}
         → RadioDecode radios radio (settings_in settings) mask llr before.slices new o
         → radios.tallies ≡ tallies_in tallies
         → let result = result_of o.outcome in
         (r ≡ result_number result) ×
         (after ≡ lent new (iterations_out result before.iterations) (reason_out result before.reason)) ×
-        (tallies' ≡ tallies_out o.radios.tallies tallies)
+        (tallies' ≡ tallies_out o.tally.tallies tallies)
     radio-call-is-method d same =
         let first =
         ap (λ (number : ℕ). first_refusal number (radio_call_number radio (tallies_in tallies))) lists

@@ -1,14 +1,15 @@
 // The C interface: coder, read-out, fronts, decoder, a tally for each radio, and the texts of blocks, for callers in
-// other languages, as include/vedrogne.h declares them.
+// other languages, as include/vedrogne.h declares them. `vedrogne_c` exports each function with the number of its
+// answer.
 // It sees the promises of `calls`, `polar`, `channel`, `antennas`, `settings`, `decoder`, `tally`, `radios`,
-// `report_input`, `report_writer` and `report_text`. It promises that each function returns its call's number, 0 or a
-// refusal's, and leaves in every lent slice what the call's definition says; after a refusal nothing has changed, save
-// a tally that counts it.
+// `report_input`, `report_writer` and `report_text`. It promises that each function's answer has its call's number, 0
+// or a refusal's, and that it leaves in every lent slice what the call's definition says; after a refusal nothing has
+// changed, save a tally that counts it.
 // A slice is a pointer and a length in elements, two parameters in C. No function requires anything of the values
 // handed in.
 #![tactic(auto)]
 
-ghost use Rattle.std.specs.Prelude.{◌≡◌, ◌++◌, ◌+◌, ◌≤◌, length, take, drop};
+ghost use Rattle.std.specs.Prelude.{◌≡◌, ◌++◌, ◌+◌, ◌≤◌, length, take, drop, MatchResult};
 ghost use Rattle.polar.specs.Code.{encode_number, encode_block, read_out_number, read_out_message};
 ghost use Rattle.channel.specs.Front.{front_number, front_llrs};
 ghost use Rattle.antennas.specs.FrontTwo.{branches, front_two_number, front_two_llrs};
@@ -16,6 +17,7 @@ ghost use Rattle.settings.specs.Settings.{settings_list};
 ghost use Rattle.settings.specs.Slices.{slices};
 ghost use Rattle.decoder.specs.Decoder.{result_of};
 ghost use Rattle.calls.specs.LentMemory.{written_over};
+ghost use Rattle.calls.specs.Numbers.{number_of, refusal_number};
 ghost use Rattle.report_input.specs.Input.{block_of};
 ghost use Rattle.report_text.specs.Report.{report};
 ghost use Rattle.report_writer.specs.Writer.{tidy_text};
@@ -39,40 +41,39 @@ ghost use Rattle.vedrogne.specs.TextCalls.{read_meaning, ReadCall};
 ghost use Rattle.vedrogne.specs.TextCalls.{write_call_number, report_call_number, TextCall};
 
 use antennas::Receiver;
-use calls::{Answer, Refusal};
+use calls::Refusal;
 use channel::Channel;
-use decoder::Outcome;
+use decoder::Ending;
 use polar::Code;
 use radios::RADIOS;
-use report_input::Input;
 use report_text::REPORT_ROOM;
-use report_writer::Written;
 use settings::Settings;
-use tally::Tally;
+use tally::{Tallied, Tally};
 
-// How many elements of a list of settings, of one tally and of all tallies are read or written, and the number that
-// refuses a shorter list.
+// How many elements of a list of settings, of one tally and of all tallies are read or written.
 const SETTINGS_LENGTH: usize = 6;
 
 const TALLY_LENGTH: usize = 5;
 
 const TALLIES_LENGTH: usize = TALLY_LENGTH * RADIOS;
 
-const SHORT_LIST: u32 = 7;
-
-// The one place where a list becomes settings.
-fn settings_in(settings: &[u32]) -> Settings
-    requires { settings_length ≤ length settings.now }
-    ensures { result ≡ settings_in settings.now }
+// The one place where a list becomes settings. 7 refuses a shorter list.
+fn settings_in(settings: &[u32]) -> Result<Settings, Refusal>
+    ensures { MatchResult result
+        (λ values. (settings_list_number settings.now ≡ 0) × (values ≡ settings_in settings.now))
+        (λ refusal. settings_list_number settings.now ≡ refusal_number refusal) }
 {
-    Settings {
+    if settings.len() < SETTINGS_LENGTH {
+        return Err(Refusal::ShortSlice);
+    }
+    Ok(Settings {
         m: settings[0],
         ceiling: settings[1],
         scale: settings[2],
         limit: settings[3],
         criterion: settings[4],
         operand: settings[5],
-    }
+    })
 }
 
 // And the one place where settings become a list.
@@ -80,12 +81,14 @@ fn settings_out(values: Settings, settings: &mut [u32])
     requires { settings_length ≤ length settings.old }
     ensures { settings.new ≡ written_over (settings_list values) settings.old }
 {
-    settings[0] = values.m;
-    settings[1] = values.ceiling;
-    settings[2] = values.scale;
-    settings[3] = values.limit;
-    settings[4] = values.criterion;
-    settings[5] = values.operand;
+    settings[..SETTINGS_LENGTH].copy_from_slice(&[
+        values.m,
+        values.ceiling,
+        values.scale,
+        values.limit,
+        values.criterion,
+        values.operand,
+    ]);
 }
 
 // The tally whose five numbers begin at an element.
@@ -114,20 +117,20 @@ fn tally_out(counts: Tally, tallies: &mut [u32], at: usize)
     tallies[at + 4] = counts.iterations;
 }
 
-// The number to return; iteration and reason are written only where the decoder ended.
-fn result_out(outcome: Outcome, iterations: &mut u32, reason: &mut u32) -> u32
-    ensures value { result ≡ result_number (result_of outcome) }
+// Iteration and reason are written only where the decoder ended.
+fn result_out(
+    outcome: Result<Ending, Refusal>,
+    iterations: &mut u32,
+    reason: &mut u32,
+) -> Result<(), Refusal>
+    ensures value { number_of result ≡ result_number (result_of outcome) }
     ensures iterations_after { iterations.new ≡ iterations_out (result_of outcome) iterations.old }
     ensures reason_after { reason.new ≡ reason_out (result_of outcome) reason.old }
 {
-    match outcome {
-        Outcome::Refused(refusal) => calls::number(Answer::Refused(refusal)),
-        Outcome::Ended(iteration, why) => {
-            *iterations = iteration;
-            *reason = decoder::reason_number(why);
-            0
-        }
-    }
+    let ending = outcome?;
+    *iterations = ending.iterations;
+    *reason = decoder::reason_number(ending.reason);
+    Ok(())
 }
 
 pub fn vedrogne_decode(
@@ -141,27 +144,18 @@ pub fn vedrogne_decode(
     work: &mut [i16],
     iterations: &mut u32,
     reason: &mut u32,
-) -> u32
+) -> Result<(), Refusal>
     ensures { DecodeCall (settings_list_number settings.now)
         settings.now mask.now llr.now
         (lent (slices soft.old mark.old coded_soft.old coded_mark.old
         work.old) iterations.old reason.old)
         (lent (slices soft.new mark.new coded_soft.new coded_mark.new
         work.new) iterations.new reason.new)
-        result }
+        (number_of result) }
 {
-    if settings.len() < SETTINGS_LENGTH {
-        return SHORT_LIST;
-    }
+    let settings = settings_in(settings)?;
     let outcome = decoder::decode(
-        settings_in(settings),
-        mask,
-        llr,
-        soft,
-        mark,
-        coded_soft,
-        coded_mark,
-        work,
+        settings, mask, llr, soft, mark, coded_soft, coded_mark, work,
     );
     result_out(outcome, iterations, reason)
 }
@@ -181,7 +175,7 @@ pub fn vedrogne_decode_radio(
     work: &mut [i16],
     iterations: &mut u32,
     reason: &mut u32,
-) -> u32
+) -> Result<(), Refusal>
     ensures { RadioCall radio tallies.old tallies.new
         settings.now mask.now llr.now
         (lent (slices soft.old mark.old
@@ -190,50 +184,44 @@ pub fn vedrogne_decode_radio(
         (lent (slices soft.new mark.new
         coded_soft.new coded_mark.new work.new)
         iterations.new reason.new)
-        result }
+        (number_of result) }
 {
     if tallies.len() < TALLIES_LENGTH {
-        return SHORT_LIST;
+        return Err(Refusal::ShortSlice);
     }
-    if settings.len() < SETTINGS_LENGTH {
-        return SHORT_LIST;
-    }
+    let settings = settings_in(settings)?;
     if !radios::is_radio(radio) {
-        return calls::number(Answer::Refused(Refusal::RadioNumber));
+        return Err(Refusal::RadioNumber);
     }
     let at = TALLY_LENGTH * radio as usize;
-    let tallied = tally_in(tallies, at).decode(
-        settings_in(settings),
-        mask,
-        llr,
-        soft,
-        mark,
-        coded_soft,
-        coded_mark,
-        work,
+    let Tallied { tally, outcome } = tally_in(tallies, at).decode(
+        settings, mask, llr, soft, mark, coded_soft, coded_mark, work,
     );
-    let counts = tallied.tally;
-    let outcome = tallied.outcome;
-    tally_out(counts, tallies, at);
+    tally_out(tally, tallies, at);
     result_out(outcome, iterations, reason)
 }
 
-pub fn vedrogne_encode(m: u32, mask: &[u8], message: &[u8], block: &mut [u8]) -> u32
-    ensures value { result ≡ encode_number (code_in m) mask.now message.now
+pub fn vedrogne_encode(m: u32, mask: &[u8], message: &[u8], block: &mut [u8]) -> Result<(), Refusal>
+    ensures value { number_of result ≡ encode_number (code_in m) mask.now message.now
         (length block.old) }
     ensures block_after { block.new
         ≡ encode_block (code_in m) mask.now message.now block.old }
 {
-    calls::number(polar::encode(Code { m: m }, mask, message, block))
+    polar::encode(Code { m }, mask, message, block)
 }
 
-pub fn vedrogne_read_out(m: u32, mask: &[u8], bits: &[u8], message: &mut [u8]) -> u32
-    ensures value { result ≡ read_out_number (code_in m) mask.now bits.now
+pub fn vedrogne_read_out(
+    m: u32,
+    mask: &[u8],
+    bits: &[u8],
+    message: &mut [u8],
+) -> Result<(), Refusal>
+    ensures value { number_of result ≡ read_out_number (code_in m) mask.now bits.now
         (length message.old) }
     ensures message_after { message.new
         ≡ read_out_message (code_in m) mask.now bits.now message.old }
 {
-    calls::number(polar::read_out(Code { m: m }, mask, bits, message))
+    polar::read_out(Code { m }, mask, bits, message)
 }
 
 pub fn vedrogne_front_gaussian(
@@ -242,13 +230,13 @@ pub fn vedrogne_front_gaussian(
     factor: f32,
     samples: &[f32],
     llr: &mut [i16],
-) -> u32
-    ensures value { result ≡ front_number m ceiling (Channel.Gaussian factor) samples.now
+) -> Result<(), Refusal>
+    ensures value { number_of result ≡ front_number m ceiling (Channel.Gaussian factor) samples.now
         (length llr.old) }
     ensures llr_after { llr.new
         ≡ front_llrs m ceiling (Channel.Gaussian factor) samples.now llr.old }
 {
-    calls::number(channel::front(m, ceiling, Channel::Gaussian(factor), samples, llr))
+    channel::front(m, ceiling, Channel::Gaussian(factor), samples, llr)
 }
 
 pub fn vedrogne_front_flipping(
@@ -257,20 +245,25 @@ pub fn vedrogne_front_flipping(
     weight: f32,
     samples: &[f32],
     llr: &mut [i16],
-) -> u32
-    ensures value { result ≡ front_number m ceiling (Channel.Flipping weight) samples.now
+) -> Result<(), Refusal>
+    ensures value { number_of result ≡ front_number m ceiling (Channel.Flipping weight) samples.now
         (length llr.old) }
     ensures llr_after { llr.new
         ≡ front_llrs m ceiling (Channel.Flipping weight) samples.now llr.old }
 {
-    calls::number(channel::front(m, ceiling, Channel::Flipping(weight), samples, llr))
+    channel::front(m, ceiling, Channel::Flipping(weight), samples, llr)
 }
 
-pub fn vedrogne_front_erasing(m: u32, ceiling: u32, samples: &[f32], llr: &mut [i16]) -> u32
-    ensures value { result ≡ front_number m ceiling Channel.Erasing samples.now (length llr.old) }
+pub fn vedrogne_front_erasing(
+    m: u32,
+    ceiling: u32,
+    samples: &[f32],
+    llr: &mut [i16],
+) -> Result<(), Refusal>
+    ensures value { number_of result ≡ front_number m ceiling Channel.Erasing samples.now (length llr.old) }
     ensures llr_after { llr.new ≡ front_llrs m ceiling Channel.Erasing samples.now llr.old }
 {
-    calls::number(channel::front(m, ceiling, Channel::Erasing, samples, llr))
+    channel::front(m, ceiling, Channel::Erasing, samples, llr)
 }
 
 pub fn vedrogne_front_two(
@@ -281,8 +274,8 @@ pub fn vedrogne_front_two(
     first: &[f32],
     second: &[f32],
     llr: &mut [i16],
-) -> u32
-    ensures value { result ≡ front_two_number m ceiling (receiver_in first_factor second_factor)
+) -> Result<(), Refusal>
+    ensures value { number_of result ≡ front_two_number m ceiling (receiver_in first_factor second_factor)
         (branches first.now second.now) (length llr.old) }
     ensures llr_after { llr.new ≡ front_two_llrs m ceiling (receiver_in first_factor second_factor)
         (branches first.now second.now) llr.old }
@@ -291,25 +284,26 @@ pub fn vedrogne_front_two(
         first: first_factor,
         second: second_factor,
     };
-    calls::number(antennas::front_two(m, ceiling, receiver, first, second, llr))
+    antennas::front_two(m, ceiling, receiver, first, second, llr)
 }
 
-pub fn vedrogne_read(text: &[u8], settings: &mut [u32], mask: &mut [u8], llr: &mut [i16]) -> u32
+pub fn vedrogne_read(
+    text: &[u8],
+    settings: &mut [u32],
+    mask: &mut [u8],
+    llr: &mut [i16],
+) -> Result<(), Refusal>
     ensures { ReadCall
         (read_meaning settings.old (block_of mask.old llr.old) text.now)
         settings.old settings.new
-        (block_of mask.old llr.old) (block_of mask.new llr.new) result }
+        (block_of mask.old llr.old) (block_of mask.new llr.new) (number_of result) }
 {
     if settings.len() < SETTINGS_LENGTH {
-        return SHORT_LIST;
+        return Err(Refusal::ShortSlice);
     }
-    match report_input::read(text, mask, llr) {
-        Input::Refused(refusal) => calls::number(Answer::Refused(refusal)),
-        Input::Accepted(values) => {
-            settings_out(values, settings);
-            0
-        }
-    }
+    let values = report_input::read(text, mask, llr)?;
+    settings_out(values, settings);
+    Ok(())
 }
 
 pub fn vedrogne_write(
@@ -318,32 +312,25 @@ pub fn vedrogne_write(
     llr: &[i16],
     text: &mut [u8],
     written: &mut usize,
-) -> u32
+) -> Result<(), Refusal>
     ensures { TextCall
         (write_call_number settings.now (block_of mask.now llr.now)
         (length text.old))
         (tidy_text (settings_in settings.now) (block_of mask.now llr.now))
-        text.old text.new written.old written.new result }
+        text.old text.new written.old written.new (number_of result) }
 {
-    if settings.len() < SETTINGS_LENGTH {
-        return SHORT_LIST;
-    }
-    match report_writer::write(settings_in(settings), mask, llr, text) {
-        Written::Refused(refusal) => calls::number(Answer::Refused(refusal)),
-        Written::Length(length) => {
-            *written = length;
-            0
-        }
-    }
+    let settings = settings_in(settings)?;
+    *written = report_writer::write(settings, mask, llr, text)?;
+    Ok(())
 }
 
-pub fn vedrogne_report(text: &[u8], out: &mut [u8], written: &mut usize) -> u32
+pub fn vedrogne_report(text: &[u8], out: &mut [u8], written: &mut usize) -> Result<(), Refusal>
     ensures { TextCall (report_call_number (length out.old)) (report text.now)
-        out.old out.new written.old written.new result }
+        out.old out.new written.old written.new (number_of result) }
 {
     if out.len() < REPORT_ROOM {
-        return SHORT_LIST;
+        return Err(Refusal::ShortSlice);
     }
     *written = report_text::report_into(text, out);
-    0
+    Ok(())
 }

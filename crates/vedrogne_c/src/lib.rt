@@ -1,5 +1,5 @@
 // The exports of the C interface, as include/vedrogne.h declares them: each calls the function of `vedrogne` that has
-// its name, with the same clauses.
+// its name, and returns the number of its answer, with the same clauses.
 // It sees `vedrogne`, and the definitions that its promises cite. A slice is a pointer and a length in elements, two
 // parameters in C. No function requires anything of the values handed in.
 #![tactic(auto)]
@@ -40,9 +40,9 @@ pub extern "C" fn vedrogne_decode(
         work.new) iterations.new reason.new)
         result }
 {
-    vedrogne::vedrogne_decode(
+    calls::number(vedrogne::vedrogne_decode(
         settings, mask, llr, soft, mark, coded_soft, coded_mark, work, iterations, reason,
-    )
+    ))
 }
 
 #[unsafe(no_mangle)]
@@ -70,10 +70,10 @@ pub extern "C" fn vedrogne_decode_radio(
         iterations.new reason.new)
         result }
 {
-    vedrogne::vedrogne_decode_radio(
+    calls::number(vedrogne::vedrogne_decode_radio(
         radio, tallies, settings, mask, llr, soft, mark, coded_soft, coded_mark, work, iterations,
         reason,
-    )
+    ))
 }
 
 #[unsafe(no_mangle)]
@@ -83,7 +83,7 @@ pub extern "C" fn vedrogne_encode(m: u32, mask: &[u8], message: &[u8], block: &m
     ensures block_after { block.new
         ≡ encode_block (code_in m) mask.now message.now block.old }
 {
-    vedrogne::vedrogne_encode(m, mask, message, block)
+    calls::number(vedrogne::vedrogne_encode(m, mask, message, block))
 }
 
 #[unsafe(no_mangle)]
@@ -93,7 +93,7 @@ pub extern "C" fn vedrogne_read_out(m: u32, mask: &[u8], bits: &[u8], message: &
     ensures message_after { message.new
         ≡ read_out_message (code_in m) mask.now bits.now message.old }
 {
-    vedrogne::vedrogne_read_out(m, mask, bits, message)
+    calls::number(vedrogne::vedrogne_read_out(m, mask, bits, message))
 }
 
 #[unsafe(no_mangle)]
@@ -109,7 +109,7 @@ pub extern "C" fn vedrogne_front_gaussian(
     ensures llr_after { llr.new
         ≡ front_llrs m ceiling (Channel.Gaussian factor) samples.now llr.old }
 {
-    vedrogne::vedrogne_front_gaussian(m, ceiling, factor, samples, llr)
+    calls::number(vedrogne::vedrogne_front_gaussian(m, ceiling, factor, samples, llr))
 }
 
 #[unsafe(no_mangle)]
@@ -125,7 +125,7 @@ pub extern "C" fn vedrogne_front_flipping(
     ensures llr_after { llr.new
         ≡ front_llrs m ceiling (Channel.Flipping weight) samples.now llr.old }
 {
-    vedrogne::vedrogne_front_flipping(m, ceiling, weight, samples, llr)
+    calls::number(vedrogne::vedrogne_front_flipping(m, ceiling, weight, samples, llr))
 }
 
 #[unsafe(no_mangle)]
@@ -138,7 +138,7 @@ pub extern "C" fn vedrogne_front_erasing(
     ensures value { result ≡ front_number m ceiling Channel.Erasing samples.now (length llr.old) }
     ensures llr_after { llr.new ≡ front_llrs m ceiling Channel.Erasing samples.now llr.old }
 {
-    vedrogne::vedrogne_front_erasing(m, ceiling, samples, llr)
+    calls::number(vedrogne::vedrogne_front_erasing(m, ceiling, samples, llr))
 }
 
 #[unsafe(no_mangle)]
@@ -156,7 +156,15 @@ pub extern "C" fn vedrogne_front_two(
     ensures llr_after { llr.new ≡ front_two_llrs m ceiling (receiver_in first_factor second_factor)
         (branches first.now second.now) llr.old }
 {
-    vedrogne::vedrogne_front_two(m, ceiling, first_factor, second_factor, first, second, llr)
+    calls::number(vedrogne::vedrogne_front_two(
+        m,
+        ceiling,
+        first_factor,
+        second_factor,
+        first,
+        second,
+        llr,
+    ))
 }
 
 #[unsafe(no_mangle)]
@@ -171,7 +179,7 @@ pub extern "C" fn vedrogne_read(
         settings.old settings.new
         (block_of mask.old llr.old) (block_of mask.new llr.new) result }
 {
-    vedrogne::vedrogne_read(text, settings, mask, llr)
+    calls::number(vedrogne::vedrogne_read(text, settings, mask, llr))
 }
 
 #[unsafe(no_mangle)]
@@ -188,7 +196,7 @@ pub extern "C" fn vedrogne_write(
         (tidy_text (settings_in settings.now) (block_of mask.now llr.now))
         text.old text.new written.old written.new result }
 {
-    vedrogne::vedrogne_write(settings, mask, llr, text, written)
+    calls::number(vedrogne::vedrogne_write(settings, mask, llr, text, written))
 }
 
 #[unsafe(no_mangle)]
@@ -196,5 +204,5 @@ pub extern "C" fn vedrogne_report(text: &[u8], out: &mut [u8], written: &mut usi
     ensures { TextCall (report_call_number (length out.old)) (report text.now)
         out.old out.new written.old written.new result }
 {
-    vedrogne::vedrogne_report(text, out, written)
+    calls::number(vedrogne::vedrogne_report(text, out, written))
 }

@@ -1,37 +1,31 @@
 -- `vedrogne_write` meets its contract.
-use Prim.Native.Nat.{ℕ}
-use mathlib.Core.Path.{◌∙◌, ap}
-use mathlib.Core.List.{List}
-use native.Mathlib.Omega.{arith}
+use Rattle.std.proofs.Common.{ap, ◌∙◌}
+use Rattle.std.proofs.lemmas.Result.{err_from_is_err_and}
 use Rattle.settings.specs.declared.Settings.{Settings}
-use Rattle.report_input.specs.Input.{Block, block_of}
+use Rattle.report_input.specs.Input.{block_of}
 use Rattle.report_writer.specs.Writer.{write_answer, text_after}
-use Rattle.vedrogne.specs.InterfaceLaws.{settings-long}
 use Rattle.vedrogne.proofs.TextPromises.{write-refused, write_done}
 use Rattle.vedrogne.proofs.vedrogne_write.Goals as goal
 
-pub returns-in-Refused : goal.returns-in-Refused
-returns-in-Refused c =
-    let b : Block = block_of c.args.mask.now c.args.llr.now in
-    let old : List ℕ = c.args.text.now in
-    let settings : List ℕ = c.args.settings.now in
-    let same = c.settings_in.ensures in
-    rw c.number.ensures
-    (write-refused (settings) (b) (old)
-    (settings-long (settings) (omega (arith, c.if-settings-lt-SETTINGS_LENGTH.false)))
-    c.write.result
-    (c.write.ensures.result_value ∙ ap (λ (s : Settings). write_answer s (b) (old)) same)
-    (c.write.ensures.text_after ∙ ap (λ (s : Settings). text_after s (b) (old)) same)
-    c.in-Refused.is)
+pub returns-in_err-written : goal.returns-in_err-written
+returns-in_err-written c =
+    let b = block_of c.args.mask.now c.args.llr.now in
+    let old = c.args.text.now in
+    let listed = c.in_ok-settings.ensures in
+    let handed = c.from_residual-in_err-written in
+    let p = err_from_is_err_and handed.result handed.ensures.1 in
+    rw (p.1, p.2)
+    (write-refused _ b old listed.0 c.write.result
+    (c.write.ensures.result_value ∙ ap (λ (s : Settings). write_answer s b old) listed.1)
+    (c.write.ensures.text_after ∙ ap (λ (s : Settings). text_after s b old) listed.1)
+    c.in_err-written.was)
 
-pub returns-in-Length : goal.returns-in-Length
-returns-in-Length c =
-    let b : Block = block_of c.args.mask.now c.args.llr.now in
-    let old : List ℕ = c.args.text.now in
-    let settings : List ℕ = c.args.settings.now in
-    let same = c.settings_in.ensures in
-    write_done (settings) (b) (old) (settings-long (settings) (omega (arith, c.if-settings-lt-SETTINGS_LENGTH.false)))
-    c.write.result
-    (c.write.ensures.result_value ∙ ap (λ (s : Settings). write_answer s (b) (old)) same)
-    (c.write.ensures.text_after ∙ ap (λ (s : Settings). text_after s (b) (old)) same)
-    c.in-Length.is
+pub returns : goal.returns
+returns c =
+    let b = block_of c.args.mask.now c.args.llr.now in
+    let old = c.args.text.now in
+    let listed = c.in_ok-settings.ensures in
+    write_done _ b old listed.0 c.write.result
+    (c.write.ensures.result_value ∙ ap (λ (s : Settings). write_answer s b old) listed.1)
+    (c.write.ensures.text_after ∙ ap (λ (s : Settings). text_after s b old) listed.1)
+    c.in_ok-written.was
