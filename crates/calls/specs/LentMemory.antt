@@ -3,7 +3,7 @@
 use Rattle.std.specs.Prelude.{ℕ, zero, suc, ◌≡◌, List, [], ◌∷◌, ◌++◌, length, take, drop}
 
 module _ {A : Type 0} where
-  -- g 0, g 1, .. g (n - 1) in the first n elements, the old contents behind them
+  -- g 0, g 1, .. g (n - 1) in the first n elements, the old contents after them
   abbrev pub overwrite : ℕ → (ℕ → A) → List A → List A
   overwrite zero g old = old
   overwrite (suc n) g [] = []
@@ -15,7 +15,7 @@ module _ {A : Type 0} where
   overwrite_from (suc a) n g [] = []
   overwrite_from (suc a) n g (x ∷ old) = x ∷ overwrite_from a n g old
 
-  -- a list in the first elements, the old contents behind it
+  -- a list in the first elements, the old contents after it
   abbrev pub written_over : List A → List A → List A
   written_over values old = values ++ drop (length values) old
 

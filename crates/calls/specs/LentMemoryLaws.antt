@@ -20,7 +20,7 @@ module _ {A : Type 0} where
   length-overwrite (suc n) g [] = refl
   length-overwrite (suc n) g (x ∷ l) = ap suc (length-overwrite n (λ i. g (suc i)) l)
 
-  -- an element that is written, and one behind those
+  -- an element that is written, and one after those
   pub overwrite-at : (n : ℕ) (g : ℕ → A) (l : List A) (i : ℕ) (z : A) → i < n → i < length l
       → get_or (overwrite n g l) i z ≡ g i
   overwrite-at zero g l i z h k = absurd (not-suc-le-zero h)
@@ -137,7 +137,7 @@ module _ {A : Type 0} where
   overwrite_from-every P (suc a) n g (x ∷ l) zero z new old = old
   overwrite_from-every P (suc a) n g (x ∷ l) (suc j) z new old = overwrite_from-every P a n g l j z new old
 
-  -- k elements more, behind the first n
+  -- k elements more, after the first n
   pub overwrite-more : (n k : ℕ) (f g : ℕ → A) (l : List A) → ((i : ℕ) → i < k → f i ≡ g (n + i))
       → overwrite_from n k f (overwrite n g l) ≡ overwrite (n + k) g l
   overwrite-more zero k f g l h = rw zero-add (overwrite-same k f g l (λ i q r. h i q ∙ ap g (zero-add i)))

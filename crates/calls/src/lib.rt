@@ -4,7 +4,7 @@
 #![tactic(auto)]
 
 ghost use Rattle.std.specs.Prelude.{◌≡◌};
-ghost use Rattle.calls.specs.Numbers.{refusal_number, number_of};
+ghost use Rattle.calls.specs.Numbers.{number_of};
 
 // The largest m, ceiling and scale, as document 01 has them.
 pub const LARGEST_M: u32 = 10;
@@ -39,19 +39,12 @@ pub enum Refusal {
     RadioNumber = 16,
 }
 
-// The number of a refusal.
-pub fn refusal_number(refusal: Refusal) -> u32
-    ensures { result ≡ refusal_number refusal }
-{
-    refusal as u32
-}
-
 // The number of an answer, for callers in other languages: 0, or the refusal's number.
 pub fn number(answer: Result<(), Refusal>) -> u32
     ensures { result ≡ number_of answer }
 {
     match answer {
         Ok(()) => 0,
-        Err(refusal) => refusal_number(refusal),
+        Err(refusal) => refusal as u32,
     }
 }
