@@ -2,10 +2,10 @@
 -- list.
 use Rattle.std.proofs.Common.{ℕ, zero, suc, ◌+◌, ◌≤◌, ◌<◌, ◌≡◌, refl, ap, ap₂, Bool, List, [], ◌∷◌, ◌++◌, leb, length}
 use Rattle.std.proofs.Common.{◌^◌, pow_mono, take, get_or, get_or-take, length-take-le, arith}
-use Rattle.calls.specs.Every.{every}
-use Rattle.calls.specs.EveryLaws.{every-same}
+use Rattle.calls.specs.EveryLaws.{every_firsts}
 use Rattle.calls.specs.LentMemory.{overwrite}
 use Rattle.calls.specs.LentMemoryLaws.{overwrite-same}
+use Rattle.calls.specs.NumberLaws.{between-passed}
 use Rattle.calls.specs.Bits.{byte_of, bit_of}
 use Rattle.calls.specs.Bounds.{largest_m}
 use Rattle.polar.specs.declared.Code.{Code}
@@ -13,16 +13,11 @@ use Rattle.polar.specs.Mask.{by_kind, is_mask_byte, mask_accepted}
 use Rattle.polar.specs.Code.{information_count, u_bit, are_bits, information_bytes}
 use Rattle.polar.specs.CodeLaws.{CodeAccepted}
 
-every_firsts : (n : ℕ) (l : List ℕ) (f : ℕ → Bool) → n ≤ length l
-    → every (length (take n l)) (λ i. f (get_or (take n l) i 0)) ≡ every n (λ i. f (get_or l i 0))
-every_firsts n l f h =
-    rw (length-take-le n l h) (every-same n _ _ (λ i q. ap f (get_or-take n l i 0 q)))
-
 pub bits_firsts : (n : ℕ) (l : List ℕ) → n ≤ length l → are_bits (length (take n l)) (take n l) ≡ are_bits n l
-bits_firsts n l = every_firsts n l (λ b. leb b 1)
+bits_firsts n l = every_firsts 0 (λ b. leb b 1) n l
 
 pub mask_firsts : (n : ℕ) (l : List ℕ) → n ≤ length l → mask_accepted (length (take n l)) (take n l) ≡ mask_accepted n l
-mask_firsts n l = every_firsts n l is_mask_byte
+mask_firsts n l = every_firsts 0 is_mask_byte n l
 
 module _ (n : ℕ) (mask : List ℕ) where
   kind-same : {A : Type 0} (i : ℕ) (a : A) (f : Bool → A) → i < n
@@ -78,3 +73,6 @@ module _ {code : Code} {mask : List ℕ} {room : ℕ} (h : CodeAccepted code mas
       ≡ overwrite (information_count mask (2 ^ code.m)) (λ k. get_or (information_bytes mask bytes (2 ^ code.m)) k 0)
       old
   accepted-bytes bytes old = rw (accepted-count, bytes_firsts (2 ^ code.m) mask bytes h.mask-long)
+
+-- what the check tries at the tests of a code
+pub ruleset code_firsts = (mask_firsts, count_firsts, between-passed)

@@ -103,7 +103,7 @@ module _ {k : ℕ} {old block : List ℕ} (h : Recoded k old block) where
               ∙ rw more (overwrite-more (16 * k) 16 g (recoded old) old new);
         }
 
--- the last four steps behind the others
+-- the last four steps after the others
 pub columned-recoded : (m : ℕ) (old x y : List ℕ) → Bits (2 ^ m) old → 4 ≤ m → Columned m (m - 4) old x
     → y ≡ overwrite (2 ^ m) (recoded x) x
     → y ≡ overwrite (2 ^ m) (λ i. byte_of (coded m (bits_of old) i)) old

@@ -15,7 +15,7 @@ use Rattle.polar.specs.DigitLaws.{column-step-same}
 use Rattle.polar.specs.TransformLaws.{column-coded, coded-same}
 use Rattle.polar.proofs.Parts.{part, with_part, part-at, part-overwritten}
 
--- ---- two runs: each position of the first is joined with the one d behind it
+-- ---- two runs: each position of the first is joined with the one d after it
 
 abbrev pair : List ℕ → ℕ → ℕ → ℕ
 pair l d j = bit_xor (get_or l j 0) (get_or l (d + j) 0)

@@ -10,7 +10,7 @@ size m = record { m = m }
 abbrev free : ℕ → List ℕ
 free m = replicate (2 ^ m) 0
 
--- P9: u = 0,0,0,1 codes to 1,1,1,1; u = 0,1,0,0 to 1,1,0,0. The elements behind N keep what they held
+-- P9: u = 0,0,0,1 codes to 1,1,1,1; u = 0,1,0,0 to 1,1,0,0. The elements after N keep what they held
 p9 : encode_block (size 2) (free 2) (0 ∷ 0 ∷ 0 ∷ 1 ∷ []) (9 ∷ 9 ∷ 9 ∷ 9 ∷ 9 ∷ [])
     ∷ encode_block (size 2) (free 2) (0 ∷ 1 ∷ 0 ∷ 0 ∷ []) (9 ∷ 9 ∷ 9 ∷ 9 ∷ 9 ∷ []) ∷ []
     ≡ (1 ∷ 1 ∷ 1 ∷ 1 ∷ 9 ∷ []) ∷ (1 ∷ 1 ∷ 0 ∷ 0 ∷ 9 ∷ []) ∷ []
@@ -21,12 +21,12 @@ rising : encode_block (size 3) (1 ∷ 0 ∷ 1 ∷ 1 ∷ 0 ∷ 1 ∷ 0 ∷ 1 ∷ 
     ≡ 0 ∷ 1 ∷ 1 ∷ 0 ∷ 1 ∷ 0 ∷ 1 ∷ 0 ∷ []
 rising = refl
 
--- the read_out copies any bytes, and keeps what stands behind K
+-- the read_out copies any bytes, and keeps what stands after K
 read_out : read_out_message (size 2) (1 ∷ 0 ∷ 1 ∷ 0 ∷ []) (5 ∷ 2 ∷ 6 ∷ 1 ∷ 8 ∷ []) (9 ∷ 9 ∷ 9 ∷ []) ≡ 2 ∷ 1 ∷ 9 ∷ []
 read_out = refl
 
 -- the coder's refusals, each at its boundary: m of 0, 1, 10 and 11; slices one short; a mask byte of 2; no information
--- position; a message one short; a message byte of 2 within K and behind it
+-- position; a message one short; a message byte of 2 within K and after it
 encode-numbers : encode_number (size 0) (free 1) (0 ∷ 0 ∷ []) 2
     ∷ encode_number (size 1) (free 1) (0 ∷ 0 ∷ []) 2
     ∷ encode_number (size 10) (free 1) (0 ∷ 0 ∷ []) 2

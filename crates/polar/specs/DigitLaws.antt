@@ -47,7 +47,7 @@ pub multiple-next : {d p : ℕ} → Multiple d p → Multiple d (p + d)
 multiple-next {d} {p} h =
     record { times = suc h.times; is = ap (λ (x : ℕ). x + d) h.is ∙ sym (suc-mul h.times d) }
 
--- the run of 2 ^ t positions from p on: they share the digit, lie within the block, and so does the run behind an upper
+-- the run of 2 ^ t positions from p on: they share the digit, lie within the block, and so does the run after an upper
 -- one
 module _ (t p : ℕ) (h : Multiple (2 ^ t) p) where
   number : p / 2 ^ t ≡ h.times

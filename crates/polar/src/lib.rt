@@ -103,15 +103,12 @@ fn information_count(mask: &[u8]) -> usize
 }
 
 // The tests that the coder and the read-out share: 1; 7, the mask or the slice of N elements beside it; 8; 9.
-#[tactic(auto, using(crate::proofs::Firsts::mask_firsts, crate::proofs::Firsts::count_firsts))]
+#[tactic(auto, using(crate::proofs::Firsts::code_firsts))]
 pub fn code_refusal(code: Code, mask: &[u8], room: usize) -> Result<(), Refusal>
     ensures { number_of result ≡ code_number code mask.now room }
 {
     let m = code.m;
-    if m < 1 {
-        return Err(Refusal::BlockLength);
-    }
-    if LARGEST_M < m {
+    if !(1..=LARGEST_M).contains(&m) {
         return Err(Refusal::BlockLength);
     }
     let n = power_of_two(m);
@@ -172,7 +169,7 @@ fn place(mask: &[u8], message: &[u8], block: &mut [u8])
     }
 }
 
-// Each of the first d positions takes the exclusive-or with the one d behind it. The two runs are slices of their own,
+// Each of the first d positions takes the exclusive-or with the one d after it. The two runs are slices of their own,
 // so that the compiler knows them apart and needs no test of overlap.
 fn join(runs: &mut [u8], d: usize)
     requires { d + d ≤ length runs.old }
@@ -228,13 +225,14 @@ fn transform_sixteen(block: &mut [u8])
 
 // The last four steps, over the distances 8, 4, 2 and 1, in one pass: they join no position with one outside its
 // sixteen, so that each sixteen is a block of its own.
+#[tactic(auto, using(crate::proofs::Sixteens::sixteens))]
 fn last_steps(block: &mut [u8], m: u32)
     requires m_le_largest_m { (m ≤ largest_m) × (4 ≤ m) }
     requires bits { Bits (2 ^ m) block.old }
     ensures { block.new
         ≡ overwrite (2 ^ m) (λ i. byte_of (sixteens_coded (bits_of block.old) i)) block.old }
 {
-    for k in 0..power_of_two(m) / 16 {
+    for k in 0..power_of_two(m - 4) {
         transform_sixteen(&mut block[16 * k..]);
     }
 }

@@ -6,17 +6,17 @@ use Rattle.twice.proofs.encode_twice.Goals as goal
 
 pub returns-in_err-refusal-clause-block_after : goal.returns-in_err-refusal-clause-block_after
 returns-in_err-refusal-clause-block_after c =
-    (neither-written c.args.code c.args.mask.now c.args.message.now c.args.block.now c.args.again.now _
-    c.in_err-refusal.ensures).0
+    let a = c.args in
+    (neither-written a.code a.mask.now a.message.now a.block.now a.again.now _ c.in_err-refusal.ensures).0
 
 pub returns-in_err-refusal-clause-again_after : goal.returns-in_err-refusal-clause-again_after
 returns-in_err-refusal-clause-again_after c =
-    (neither-written c.args.code c.args.mask.now c.args.message.now c.args.block.now c.args.again.now _
-    c.in_err-refusal.ensures).1
+    let a = c.args in
+    (neither-written a.code a.mask.now a.message.now a.block.now a.again.now _ c.in_err-refusal.ensures).1
 
 pub returns-clause-block_after : goal.returns-clause-block_after
 returns-clause-block_after c =
-    let passed : twice_number c.args.code c.args.mask.now c.args.message.now c.args.block.now c.args.again.now ≡ 0
-    = number-by-lengths c.args.code c.args.mask.now c.args.message.now c.args.block.now c.args.again.now
-    ∙ sym c.in_ok-refusal.ensures in
+    let a = c.args in
+    let passed : twice_number a.code a.mask.now a.message.now a.block.now a.again.now ≡ 0
+    = number-by-lengths a.code a.mask.now a.message.now a.block.now a.again.now ∙ sym c.in_ok-refusal.ensures in
     rw passed c.encode.ensures.block_after
