@@ -1,5 +1,5 @@
--- Folds over whole slices: one that keeps whether every element passed a test is the test of every place, and one that
--- keeps the least of their sizes is at least a number where each of them is.
+-- Tests of whole slices: a fold that keeps the least of their sizes is at least a number where each of them is, and a
+-- test of two slices side by side is that of their places.
 use Prim.Native.Nat.{ℕ, min}
 use mathlib.Core.Path.{◌≡◌, sym, ap, ◌∙◌}
 use mathlib.Core.Bool.{Bool, ◌&&◌, and-true, and_assoc}
@@ -14,13 +14,6 @@ use Rattle.calls.specs.Every.{every}
 use Rattle.calls.specs.EveryLaws.{every-same, every_first}
 
 module _ {A : Type 0} (z : A) where
-  pub fold-every : (p : A → Bool) (b : Bool) (xs : List A)
-      → fold (λ a x. a && p x) b xs ≡ b && every (length xs) (λ i. p (get_or xs i z))
-  fold-every p b [] = sym (and-true b)
-  fold-every p b (x ∷ xs) =
-      fold-every p (b && p x) xs ∙ and_assoc b (p x) (every (length xs) (λ i. p (get_or xs i z)))
-      ∙ ap (λ (a : Bool). b && a) (sym (every_first (length xs) (λ i. p (get_or (x ∷ xs) i z))))
-
   leb-min : (k a b : ℕ) → leb k (min a b) ≡ leb k a && leb k b
   leb-min k a b = grind (arith, nat_tests)
 

@@ -113,6 +113,7 @@ fn same_marks(mask: &[u8], before: &[u8], soft: &[i16]) -> bool
 }
 
 // Copies the marks to the first elements.
+#[tactic(auto, using(crate::proofs::Matrix::copied))]
 fn copy(marks: &[u8], bits: &mut [u8])
     requires { length marks.now ≤ length bits.old }
     ensures { bits.new ≡ overwrite (length marks.now) (λ i. get_or marks.now i 0) bits.old }
@@ -165,8 +166,8 @@ fn g_matrix(outputs: &Outputs, marks: &[u8]) -> bool
     starts_with(&bits, outputs.coded)
 }
 
-// The steady count after one iteration more: the first iteration has none before it, and a change of
-// the marks starts the count again.
+// The steady count after one iteration more: the first iteration has none before it, and a change of the marks starts
+// the count again.
 fn steady_after(iterations: u32, steady: u32, same: bool) -> u32
     requires { steady < most_remembered }
     ensures { result ≡ steady_next iterations steady same }
@@ -180,7 +181,7 @@ fn steady_after(iterations: u32, steady: u32, same: bool) -> u32
 // What a criterion remembers between iterations: how many there were, and under criterion 3 how many of the last ones
 // kept the marks at the information positions. The decoder hands it on and takes no part of it; what a later
 // criterion remembers joins it here.
-#[derive(Clone, Copy)]
+#[derive(Clone, Copy, Default)]
 pub struct Memory {
     iterations: u32,
     steady: u32,
@@ -198,10 +199,7 @@ impl Memory {
     pub fn new() -> Memory
         ensures { result ≡ nothing }
     {
-        Memory {
-            iterations: 0,
-            steady: 0,
-        }
+        Memory::default()
     }
 
     // The steady count after an iteration with these outputs, where `before` holds the marks of the iteration before.

@@ -105,7 +105,7 @@ first-llr = refl
 pub last-llr : map (λ z. of-llr (pos 0 ∷ z ∷ [])) sizes ≡ 0 ∷ 0 ∷ 10 ∷ 10 ∷ 10 ∷ 10 ∷ []
 last-llr = refl
 
--- what stands behind the two positions is not read
+-- what stands after the two positions is not read
 pub behind : decode_number (set 1 31 16 10 1 0) (1 ∷ 0 ∷ 2 ∷ []) (pos 1 ∷ negsuc 0 ∷ negsuc 32767 ∷ [])
     (lengths 3 3 3 3 9) ≡ 0
 behind = refl

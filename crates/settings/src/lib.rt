@@ -94,21 +94,20 @@ fn slices_fit(m: u32, mask: usize, llr: usize, lengths: Lengths) -> bool
 fn lies_within(low: i16, high: i16, value: i16) -> bool
     ensures { result ≡ le_z low value && le_z value high }
 {
-    (low <= value) & (value <= high)
+    (low..=high).contains(&value)
 }
 
-// 10. It looks at every LLR and keeps one flag, without a branch.
+// 10. It looks at every LLR and keeps one flag: a loop with an early exit, as the library's `all`, is not vectorised.
 fn within_ceiling(llr: &[i16], ceiling: u32) -> bool
     requires { ceiling ≤ largest_ceiling }
     ensures { result ≡ within_ceiling (length llr.now) ceiling llr.now }
 {
     let high = ceiling as i16;
     let low = -high;
-    let mut within = true;
-    for value in llr {
-        within &= lies_within(low, high, *value);
-    }
-    within
+    llr.iter().fold(
+        true,
+        |within, value| within & lies_within(low, high, *value),
+    )
 }
 
 // 8 to 10, where the tests before have passed.
