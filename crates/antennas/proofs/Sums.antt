@@ -1,15 +1,31 @@
 -- A sum of two cut products of finite samples is no NaN.
 use Prim.Native.Nat.{ℕ, ◌+◌, ◌-◌, ◌*◌}
+use mathlib.Core.Path.{◌≡◌, refl, sym, ◌∙◌}
 use mathlib.Core.Bool.{Bool, true, false, not, cond, beq, ◌&&◌}
+use native.Mathlib.Nat.{mul-one}
+use Rattle.std.specs.Float.{float_clamp}
 use lib.Dec.{T, ltb}
-use lib.Ieee.{Float, nan, inf, fin, binary32, up, down, is_nan, round, sum, add, mul}
+use lib.Ieee.{Float, nan, inf, fin, binary32, of_bits, up, down, is_nan, neg, lt, round, sum, add, mul}
 use lib.Ieee.Fits.{and_l, and_r}
 use Rattle.channel.specs.Front.{is_finite, is_above_zero}
 use Rattle.channel.proofs.Samples.{either_number, round_number, product-number}
 use Rattle.antennas.specs.declared.Receiver.{Receiver}
-use Rattle.antennas.specs.FrontTwo.{are_usable}
+use Rattle.antennas.specs.FrontTwo.{largest_product, cut_to, are_usable}
 use Rattle.antennas.specs.CutLaws.{cut_size, cut-is}
 use Rattle.antennas.specs.FrontTwoLaws.{product}
+
+-- what the code computes, with its constant by its bits
+pub branch_cut : (x : Float) → let largest = of_bits binary32 1166016512 in
+    float_clamp x (neg largest) largest ≡ cut_to largest_product x
+unfolding lt neg of_bits cut_size
+branch_cut x = clamped x ∙ sym (cut-is x)
+  where
+    clamped : (x : Float) → float_clamp x (neg largest_product) largest_product ≡ cut_size x
+    clamped nan = refl
+    clamped (inf true) = refl
+    clamped (inf false) = refl
+    clamped (fin true m e) = rw (mul-one (m * up e)) refl
+    clamped (fin false m e) = rw (mul-one (m * up e)) refl
 
 either-finite : (b : Bool) (x y : Float) → T (is_finite x) → T (is_finite y) → T (is_finite (cond b x y))
 either-finite true x y p q = p
@@ -42,11 +58,14 @@ add-number (fin s m e) (fin t n d) h k = sum_number s (m * up e * down d) t (n *
 product-finite : (x factor : Float) → T (is_finite x) → T (is_above_zero factor) → T (is_finite (product x factor))
 product-finite x factor h k = rw (cut-is (mul binary32 x factor)) (size-finite _ (product-number x factor h k))
 
-pub sum-of-products : (receiver : Receiver) (x y : Float) → T (are_usable receiver) → T (is_finite x) → T (is_finite y)
-    → T (not (is_nan (add binary32 (product x receiver.first) (product y receiver.second))))
-sum-of-products receiver x y usable h k =
+pub sum_of_branches : (receiver : Receiver) (x y a b : Float) → T (are_usable receiver) → T (is_finite x)
+    → T (is_finite y)
+    → a ≡ cut_to largest_product (mul binary32 x receiver.first)
+    → b ≡ cut_to largest_product (mul binary32 y receiver.second) → T (not (is_nan (add binary32 a b)))
+sum_of_branches receiver x y a b usable h k p q =
     let f = receiver.first in
     let g = receiver.second in
-    add-number (product x f) (product y g)
+    rw (p, q)
+    (add-number (product x f) (product y g)
     (product-finite x f h (and_l (is_above_zero f) (is_above_zero g) usable))
-    (product-finite y g k (and_r (is_above_zero f) (is_above_zero g) usable))
+    (product-finite y g k (and_r (is_above_zero f) (is_above_zero g) usable)))

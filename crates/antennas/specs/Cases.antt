@@ -24,7 +24,7 @@ unequal = factors 0x3f80_0000 0x4000_0000
 abbrev strongest : Receiver
 strongest = factors 0x7f7f_ffff 0x7f7f_ffff
 
--- ---- the cut: 4096 and the float before it stay, the float behind it and the largest are cut, each with its sign, and
+-- ---- the cut: 4096 and the float before it stay, the float after it and the largest are cut, each with its sign, and
 -- an infinity like any other
 cuts : map (λ bits. cut_to largest_product (float bits))
     (0x4580_0000 ∷ 0x457f_ffff ∷ 0xc57f_ffff ∷ 0x4580_0001 ∷ 0xc580_0001 ∷ 0xff7f_ffff ∷ 0x7f80_0000 ∷ 0xff80_0000 ∷ [])
@@ -100,7 +100,7 @@ pair = one ∷ one ∷ []
 abbrev number : List Float → List Float → ℕ → ℕ
 number first second room = front_two_number 1 31 plain (branches first second) room
 
--- none: just enough, more than enough, and a NaN behind the two samples of either branch
+-- none: just enough, more than enough, and a NaN after the two samples of either branch
 accepted : number pair pair 2 ∷ number (one ∷ pair) (one ∷ pair) 9
     ∷ number (one ∷ one ∷ nan ∷ []) (one ∷ one ∷ inf true ∷ []) 2 ∷ []
     ≡ 0 ∷ 0 ∷ 0 ∷ []

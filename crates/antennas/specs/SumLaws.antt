@@ -172,7 +172,7 @@ own_value t s (suc m) e h =
         (subst (λ (n : ℕ). suc m * up e * 2 ^ 149 < n) (mul_right_comm (2 ^ 128) (down e) (2 ^ 149))
         (mul-lt-mul_of_pos_right high (pow_pos 149))))
 
--- a / c with a zero behind it is a / c, rounded; where a is zero too, the sign makes no difference
+-- a / c with a zero after it is a / c, rounded; where a is zero too, the sign makes no difference
 module _ (C a c : ℕ) (h : 0 < c)
     (own : (s : Bool) → quantised C (round binary32 s a c) ≡ flipped s (pos (rounded_size C a c))) where
   any_sign : (t y : Bool) → ltb 0 a ≡ y

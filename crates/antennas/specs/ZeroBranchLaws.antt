@@ -96,7 +96,7 @@ llr-with-zero C receiver x y h usable z =
 
 module _ (m C : ℕ) (receiver : Receiver) (samples : Branches) (above : is_above_zero receiver.second ≡ true)
     (zero-at : (i : ℕ) → i < 2 ^ m → eq (get_or samples.second i nan) (fin false 0 (pos 0)) ≡ true) where
-  -- behind the end of a list stands a NaN, which equals nothing
+  -- after the end of a list stands a NaN, which equals nothing
   zeros-long : 2 ^ m ≤ length samples.second
   zeros-long = by_length (dec_le (2 ^ m) (length samples.second))
     where

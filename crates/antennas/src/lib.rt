@@ -33,6 +33,7 @@ pub struct Receiver {
 }
 
 // What a branch adds to the sum: one product, rounded once, and cut.
+#[tactic(auto, using(crate::proofs::Sums::branch_cut))]
 fn branch(sample: f32, factor: f32) -> f32
     ensures { result ≡ cut_to largest_product (mul binary32 sample factor) }
 {
@@ -40,6 +41,7 @@ fn branch(sample: f32, factor: f32) -> f32
 }
 
 // The LLR of a pair of samples: one sum, rounded once, and quantised as for one antenna.
+#[tactic(auto, using(crate::proofs::Sums::sum_of_branches))]
 fn llr_of_two(ceiling: Ceiling, receiver: Receiver, x: f32, y: f32) -> i16
     requires usable { T (are_usable receiver) }
     requires finite { T (is_finite x) × T (is_finite y) }
@@ -61,21 +63,19 @@ impl Receiver {
 
 // Whether both samples are finite: a finite value less itself is zero, and any other a NaN, which equals nothing. One
 // comparison for the two.
+#[tactic(auto, using(channel::proofs::Comparisons::both_finite_is))]
 fn pair_finite(x: f32, y: f32) -> bool
     ensures { result ≡ is_finite x && is_finite y }
 {
     x - x == y - y
 }
 
-// Whether the first n pairs are finite. It looks at all of them, so that the loop has no branch.
-fn both_finite(first: &[f32], second: &[f32], n: usize) -> bool
-    requires { (n ≤ length first.now) × (n ≤ length second.now) }
-    ensures { result ≡ are_finite n (branches first.now second.now) }
+// Whether the samples of both branches are finite.
+fn both_finite(first: &[f32], second: &[f32]) -> bool
+    requires { length first.now ≡ length second.now }
+    ensures { result ≡ are_finite (length first.now) (branches first.now second.now) }
 {
-    first[..n]
-        .iter()
-        .zip(&second[..n])
-        .fold(true, |all, (x, y)| all & pair_finite(*x, *y))
+    first.iter().zip(second).all(|(x, y)| pair_finite(*x, *y))
 }
 
 // The first 2^m samples of both branches become the first 2^m LLRs.
@@ -101,7 +101,7 @@ pub fn front_two(
     if !receiver.is_usable() {
         return Err(Refusal::ChannelFactor);
     }
-    if !both_finite(first, second, n) {
+    if !both_finite(&first[..n], &second[..n]) {
         return Err(Refusal::SampleNotFinite);
     }
     channel::fill_each(&mut llr[..n], |i| {

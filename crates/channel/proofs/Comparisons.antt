@@ -7,11 +7,12 @@ use native.Mathlib.Nat.{le_refl, mul-pos, sub_self, zero-lt-suc}
 use native.Mathlib.Omega.{arith}
 use lib.Dec.{ltb, eqb, eqb-suc-zero}
 use lib.IntN.{ℤ, pos, neg_ℤ}
-use lib.Ieee.{Float, nan, inf, fin, binary32, up, down, size, odd, units, round, sum, add, sub, neg, lt, eq}
+use lib.Ieee.{Float, nan, inf, fin, binary32, of_bits, up, down, size, odd, units, round, sum, add, sub, neg, lt, eq}
 use lib.Ieee.Fits.{up_pos, down_pos}
 use lib.Ieee.Scale.{round_same}
 use borrow.Author.Tests.{lt-ltb, le-ltb}
 use Rattle.channel.specs.Front.{is_finite, is_above_zero}
+use Rattle.calls.proofs.Signed.{minus-held}
 use Rattle.channel.specs.Private.{by_sign}
 
 -- ---- a float less itself
@@ -41,9 +42,9 @@ less-itself (fin s m e) =
     ∙ zero-rounded
 
 -- the differences of two floats are equal exactly where both floats are finite
-pub both-finite-is : (x y : Float) → is_finite x && is_finite y ≡ eq (sub binary32 x x) (sub binary32 y y)
+pub both_finite_is : (x y : Float) → is_finite x && is_finite y ≡ eq (sub binary32 x x) (sub binary32 y y)
 unfolding eq
-both-finite-is x y = rw (less-itself x, less-itself y) (by_tests (is_finite x) (is_finite y))
+both_finite_is x y = rw (less-itself x, less-itself y) (by_tests (is_finite x) (is_finite y))
   where
     by_tests : (a b : Bool) → a && b ≡ eq (cond a (fin false 0 (pos 0)) nan) (cond b (fin false 0 (pos 0)) nan)
     by_tests true true = refl
@@ -51,7 +52,7 @@ both-finite-is x y = rw (less-itself x, less-itself y) (by_tests (is_finite x) (
     by_tests false true = refl
     by_tests false false = refl
 
--- ---- zero and a finite float, either way round
+-- ---- zero and a finite float, either way round; zero and infinity as the code's constants are, by their bits
 
 above : (s : Bool) (m : ℕ) (e : ℤ) → lt (fin false 0 (pos 0)) (fin s m e) ≡ (not s && not (eqb m 0))
 unfolding lt
@@ -69,16 +70,16 @@ under true (suc m) e =
     lt-ltb 0 (suc m * up e * 1 + 0 * 1 * down e) (omega (arith, mul-pos (zero-lt-suc m) (up_pos e)))
     ∙ sym (ap not (eqb-suc-zero m))
 
-pub above-zero-is : (x : Float) → is_above_zero x ≡ lt (fin false 0 (pos 0)) x && lt x (inf false)
-unfolding lt is_above_zero
-above-zero-is nan = refl
-above-zero-is (inf true) = refl
-above-zero-is (inf false) = refl
-above-zero-is (fin s m e) = sym (ap (λ (b : Bool). b && true) (above s m e) ∙ and-true (not s && not (eqb m 0)))
+pub above_zero_is : (x : Float) → is_above_zero x ≡ lt (of_bits binary32 0) x && lt x (of_bits binary32 2139095040)
+unfolding lt is_above_zero of_bits
+above_zero_is nan = refl
+above_zero_is (inf true) = refl
+above_zero_is (inf false) = refl
+above_zero_is (fin s m e) = sym (ap (λ (b : Bool). b && true) (above s m e) ∙ and-true (not s && not (eqb m 0)))
 
 pub by-sign-is : (x : Float) (z : ℤ)
-    → by_sign x z ≡ cond (lt x (fin false 0 (pos 0))) (neg_ℤ z) (cond (lt (fin false 0 (pos 0)) x) z (pos 0))
-unfolding by_sign lt
+    → by_sign x z ≡ cond (lt x (of_bits binary32 0)) (neg_ℤ z) (cond (lt (of_bits binary32 0) x) z (pos 0))
+unfolding by_sign lt of_bits
 by-sign-is nan z = refl
 by-sign-is (inf true) z = refl
 by-sign-is (inf false) z = refl
@@ -86,3 +87,5 @@ by-sign-is (fin true zero e) z = simp (under true zero e)
 by-sign-is (fin false zero e) z = simp (under false zero e, above false zero e)
 by-sign-is (fin true (suc m) e) z = simp (under true (suc m) e, eqb-suc-zero)
 by-sign-is (fin false (suc m) e) z = simp (under false (suc m) e, above false (suc m) e, eqb-suc-zero)
+
+pub ruleset sign_rules = (by-sign-is, minus-held)

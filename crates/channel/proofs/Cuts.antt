@@ -102,7 +102,21 @@ at-top C x (fin false n d) range h v =
     let is : n * up d ≡ C * down d = sym (mul-one (n * up d)) ∙ v.1 in
     (le_of_lt (fin true n d) (fin false n d) (in_order C n d range.1 is range.0), cut-well C n d range.1 is x h)
 
-pub clamped : (C : ℕ) (x : Float) → (1 ≤ C) × (C ≤ largest_ceiling) → T (not (is_nan x))
-    → let top = of_int binary32 (pos C) in
-    T (le (neg top) top) × CutWell C x (float_clamp x (neg top) top)
-clamped C x range h = at-top C x (of_int binary32 (pos C)) range h (top-value C range.1)
+module _ (C : ℕ) (low : 1 ≤ C) (high : C ≤ largest_ceiling) where
+  abbrev pub top : Float
+  top = of_int binary32 (pos C)
+
+  well : (x : Float) → T (not (is_nan x)) → T (le (neg top) top) × CutWell C x (float_clamp x (neg top) top)
+  well x h = at-top C x top (low, high) h (top-value C high)
+
+  pub cut_ordered : T (le (neg top) top)
+  unfolding is_nan
+  cut_ordered = (well (fin false 0 (pos 0)) tt).0
+
+  pub cut_within : (x : Float) → T (not (is_nan x)) → T (is_within largest_ceiling (float_clamp x (neg top) top))
+  cut_within x h = (well x h).1.0
+
+  pub cut_whole : (x : Float) → T (not (is_nan x)) → whole_of (float_clamp x (neg top) top) ≡ quantised C x
+  cut_whole x h = (well x h).1.1
+
+pub ruleset cut_rules = (cut_ordered, cut_within, cut_whole)

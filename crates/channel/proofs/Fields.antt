@@ -24,6 +24,10 @@ use lib.Dec.{T, leb, eqb, leb→le, lit<}
 use lib.Pow.{pow-add, pow_pos, pow_mono}
 use lib.Bits.{bit_or, or_step, or_zero_r}
 use lib.IntN.{pos}
+use lib.Ieee.Casts.{to_signed_in}
+use mir.Syntax.{w16}
+use mir.Val.{to_z, of_z}
+use mir.Facts.{to_z-of_z}
 use lib.Ieee.{
   Float,
   nan,
@@ -275,7 +279,7 @@ module _ (x : Float) (k : T (fits binary32 x)) (h : T (is_within largest_ceiling
       nearest-bound 2047 units (2 ^ 149) (pow_pos 149)
       (within-is 2047 x sign units (2 ^ 149) h x-value)
 
-  pub whole-read : let r = sub binary32 (add binary32 y rounding) rounding in
+  whole-read : let r = sub binary32 (add binary32 y rounding) rounding in
       T (in_signed binary32 15 r) × (to_signed 15 r ≡ whole_of x)
   whole-read =
       let n = nearest-is units (2 ^ 149) (pow_pos 149) in
@@ -283,3 +287,28 @@ module _ (x : Float) (k : T (fits binary32 x)) (h : T (is_within largest_ceiling
       let b = in_halves units units_set t (2 ^ 148) (pow_pos 148) sides n.0 n.1 in
       rw (whole_is x sign units (2 ^ 149) (pow_pos 149) x-value)
       (whole-by-addition y sign units_set (2 ^ 149) t (pow_pos 149) whole-small set_value b.0 b.1)
+
+-- ---- what the code computes, with its constant as it stands there, by its bits
+
+pub within_number : (x : Float) → T (is_within largest_ceiling x) → T (not (is_nan x))
+unfolding is_within is_nan
+within_number nan h = h
+within_number (inf s) h = tt
+within_number (fin s m e) h = tt
+
+abbrev pub summed : Float → Float
+summed x =
+    let constant = of_bits binary32 1262485504 in
+    sub binary32 (add binary32 (of_bits binary32 (bit_or (to_bits binary32 x) 1)) constant) constant
+
+pub summed_fits : (x : Float) → T (is_within largest_ceiling x) → T (fits binary32 x)
+    → T (in_signed binary32 15 (summed x))
+unfolding of_bits
+summed_fits x h k = (whole-read x k h).0
+
+pub summed_whole : (x : Float) → T (is_within largest_ceiling x) → T (fits binary32 x)
+    → to_z w16 (of_z w16 (to_signed 15 (summed x))) ≡ whole_of x
+unfolding of_bits
+summed_whole x h k = to_z-of_z {w = w16} (record { sfits = to_signed_in 15 _ }) ∙ (whole-read x k h).1
+
+pub ruleset whole_rules = (within_number, set-number, summed_fits, summed_whole)

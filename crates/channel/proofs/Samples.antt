@@ -1,16 +1,15 @@
 -- Samples that are finite: each of the first n, and no NaN in their products with a factor.
 use Prim.Native.Nat.{ℕ, zero, suc, ◌+◌, ◌*◌, ◌^◌, ◌<◌, ◌≤◌}
-use mathlib.Core.Path.{◌≡◌, refl, sym, ap, ◌∙◌}
-use mathlib.Core.Bool.{Bool, true, false, not, cond, ◌&&◌}
-use mathlib.Core.List.{List, [], ◌∷◌}
-use Rattle.std.proofs.Common.{length, take, fold, get_or-take, length-take-le}
-use Rattle.std.proofs.Math.Bool.{and-true, and_assoc}
+use mathlib.Core.Path.{◌≡◌, refl}
+use mathlib.Core.Bool.{Bool, true, false, not, cond}
+use mathlib.Core.List.{List}
+use Rattle.std.proofs.Common.{length, take}
 use Rattle.std.specs.Float.{float_is_finite}
 use lib.Dec.{T, ltb}
 use lib.ListN.{get_or}
 use lib.Ieee.{Float, nan, inf, fin, Format, binary32, prec, emax, low, up, down, unlike, odd, units, round, mul, is_nan}
 use denote.Floats.{passes, is_true}
-use Rattle.calls.specs.EveryLaws.{every-at, every-same, every_first}
+use Rattle.calls.specs.EveryLaws.{every-at, every_firsts}
 use Rattle.channel.specs.Front.{is_finite, is_above_zero, all_finite}
 
 pub sample-finite : (n i : ℕ) (samples : List Float) → i < n → T (all_finite n samples)
@@ -55,8 +54,6 @@ above-zero-number nan h = h
 above-zero-number (inf s) h = tt
 above-zero-number (fin s m e) h = tt
 
--- ---- all of the first n, one after another
-
 -- the library's test is the definition's
 pub library-finite : (x : Float) → float_is_finite x ≡ is_finite x
 unfolding float_is_finite is_finite
@@ -64,17 +61,7 @@ library-finite nan = refl
 library-finite (inf s) = refl
 library-finite (fin s m e) = refl
 
-folded : (b : Bool) (samples : List Float)
-    → fold (λ all x. all && is_finite x) b samples ≡ b && all_finite (length samples) samples
-folded b [] = sym (and-true b)
-folded b (x ∷ samples) =
-    folded (b && is_finite x) samples
-    ∙ and_assoc b (is_finite x) (all_finite (length samples) samples)
-    ∙ ap (λ t. b && t) (sym (every_first (length samples) (λ i. is_finite (get_or (x ∷ samples) i nan))))
-
-pub finite-folded : (n : ℕ) (samples : List Float) → n ≤ length samples
-    → fold (λ all x. all && is_finite x) true (take n samples) ≡ all_finite n samples
-finite-folded n samples h =
-    folded true (take n samples)
-    ∙ ap (λ k. all_finite k (take n samples)) (length-take-le n samples h)
-    ∙ every-same n _ _ (λ i l. ap is_finite (get_or-take n samples i nan l))
+-- the first n, which the code takes as a slice of their own
+pub finite_firsts : (n : ℕ) (samples : List Float) → n ≤ length samples
+    → all_finite (length (take n samples)) (take n samples) ≡ all_finite n samples
+finite_firsts = every_firsts nan is_finite

@@ -110,7 +110,7 @@ one = float 0x3f80_0000
 abbrev pair : List Float
 pair = one ∷ one ∷ []
 
--- none: just enough, more than enough, and a NaN behind the two samples
+-- none: just enough, more than enough, and a NaN after the two samples
 accepted : front_number 1 31 plain pair 2 ∷ front_number 1 2047 Erasing (one ∷ pair) 9
     ∷ front_number 1 1 plain (one ∷ one ∷ nan ∷ []) 2 ∷ []
     ≡ 0 ∷ 0 ∷ 0 ∷ []

@@ -243,7 +243,7 @@ unfolding neg
 nan-flipped true = refl
 nan-flipped false = refl
 
--- (behind the list's end both sides read a NaN)
+-- (after the list's end both sides read a NaN)
 pub sample-flipped : (n : ℕ) (bit : ℕ → Bool) (samples : List Float) (i : ℕ) → i < n
     → get_or (flipped_samples n bit samples) i nan ≡ flipped_sample (bit i) (get_or samples i nan)
 sample-flipped zero bit samples i h = absurd (not-suc-le-zero h)

@@ -35,6 +35,7 @@ pub enum Channel {
 }
 
 // Finite and above zero, as a factor or a weight has to be.
+#[tactic(auto, using(crate::proofs::Comparisons::above_zero_is))]
 pub fn above_zero(x: f32) -> bool
     ensures { result ≡ is_above_zero x }
 {
@@ -54,12 +55,11 @@ impl Channel {
     }
 }
 
-// Whether the first n samples are finite. It looks at all of them, so that the loop has no branch.
-fn all_finite(samples: &[f32], n: usize) -> bool
-    requires { n ≤ length samples.now }
-    ensures { result ≡ all_finite n samples.now }
+// Whether the samples are finite.
+fn all_finite(samples: &[f32]) -> bool
+    ensures { result ≡ all_finite (length samples.now) samples.now }
 {
-    samples[..n].iter().fold(true, |all, x| all & x.is_finite())
+    samples.iter().all(|x| x.is_finite())
 }
 
 // 1.5 * 2^23: from 2^22 below it to 2^22 above it the floats are the whole numbers, so that a sum with it is rounded to
@@ -69,6 +69,7 @@ const ROUNDING: f32 = 12582912.0;
 // The nearest whole number, halves away from zero. A sum leaves a half to the even whole number, so the last digit is
 // set first: it takes a half away from zero and, as a half ends in a 0 here, no other value to a half or past one.
 // Without a branch or a shift, so that a loop over it is vectorised.
+#[tactic(auto, using(crate::proofs::Fields::whole_rules))]
 fn nearest_whole(value: f32) -> i16
     requires { T (is_within largest_ceiling value) }
     ensures { result ≡ whole_of value }
@@ -78,6 +79,7 @@ fn nearest_whole(value: f32) -> i16
 }
 
 // The exact value, cut to the ceiling on either side, and its whole number.
+#[tactic(auto, using(crate::proofs::Cuts::cut_rules))]
 pub fn quantise(value: f32, ceiling: Ceiling) -> i16
     requires { T (not (is_nan value)) }
     ensures { result ≡ quantised ceiling.value value }
@@ -88,6 +90,7 @@ pub fn quantise(value: f32, ceiling: Ceiling) -> i16
 }
 
 // A size with the sign of a sample; a sample of either zero gives 0.
+#[tactic(auto, using(crate::proofs::Comparisons::sign_rules))]
 fn by_sign(sample: f32, size: i16) -> i16
     requires { nat_abs size ≤ largest_ceiling }
     ensures { result ≡ by_sign sample size }
@@ -145,6 +148,7 @@ pub fn block_length(m: u32) -> Result<usize, Refusal>
 }
 
 // The first 2^m samples become the first 2^m LLRs.
+#[tactic(auto, using(crate::proofs::Samples::finite_firsts))]
 pub fn front(
     m: u32,
     ceiling: u32,
@@ -163,7 +167,7 @@ pub fn front(
     if !channel.is_usable() {
         return Err(Refusal::ChannelFactor);
     }
-    if !all_finite(samples, n) {
+    if !all_finite(&samples[..n]) {
         return Err(Refusal::SampleNotFinite);
     }
     fill(channel, ceiling, samples, &mut llr[..n]);
