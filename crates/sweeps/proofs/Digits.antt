@@ -1,5 +1,5 @@
 -- Whole numbers of runs, and the digit that says on which side a position is: in runs of which a whole number makes the
--- distance, one distance further, and behind a whole number of pairs of runs.
+-- distance, one distance further, and after a whole number of pairs of runs.
 use Prim.Native.Nat.{ℕ, suc, ◌+◌, ◌-◌, ◌*◌, ◌/◌, ◌%◌, ◌^◌, ◌≤◌, ◌<◌}
 use mathlib.Core.Path.{◌≡◌, sym, ap, ◌∙◌}
 use native.Mathlib.Nat.{
@@ -7,11 +7,13 @@ use native.Mathlib.Nat.{
   add-mul-div_right,
   add-zero,
   div-div-eq-div-mul,
-  lt_of_mul-lt-mul_right,
   mul_assoc,
   mul_comm,
-  suc-mul,
-  mul-le-mul_right,
+  mul-suc,
+  mul-le-mul_left,
+  mul-div-le,
+  mul-div_cancel,
+  mul-sub,
   pow-suc,
 }
 use native.Mathlib.Omega.{arith}
@@ -19,6 +21,9 @@ use lib.Pow.{pow_pos, pow-add}
 use Rattle.std.proofs.lemmas.Nat.{div-mul-add}
 use Rattle.polar.specs.Columns.{digit}
 use Rattle.polar.specs.DigitLaws.{Multiple}
+
+pub same-power : {t u : ℕ} → t ≡ u → 2 ^ t ≡ 2 ^ u
+same-power e = ap (λ (k : ℕ). 2 ^ k) e
 
 -- a multiple of a multiple, and of powers
 pub multiple-trans : {d n p : ℕ} → Multiple d n → Multiple n p → Multiple d p
@@ -33,12 +38,26 @@ power-multiple s m le =
     let e : m ≡ m - s + s = omega arith in
     record { times = 2 ^ (m - s); is = ap (λ (k : ℕ). 2 ^ k) e ∙ pow-add 2 (m - s) s }
 
--- a whole number of runs lies before the end, and so does the next run
-pub run-fits : {W n p : ℕ} → Multiple W n → Multiple W p → p < n → p + W ≤ n
-run-fits {W} {n} {p} hn hp l =
-    let fewer : hp.times * W < hn.times * W = omega (arith, hp.is, hn.is) in
-    let next : suc hp.times * W ≤ hn.times * W = mul-le-mul_right W (lt_of_mul-lt-mul_right W fewer) in
-    omega (arith, suc-mul hp.times W, hp.is, hn.is)
+pub multiple-less : {d n p : ℕ} → Multiple d n → Multiple d p → Multiple d (n - p)
+multiple-less {d} g h =
+    record {
+      times = g.times - h.times;
+      is = rw (g.is, h.is, mul_comm g.times d, mul_comm h.times d, mul_comm (g.times - h.times) d)
+          (sym (mul-sub d g.times h.times));
+    }
+
+-- turn c of the n / W turns of a loop, and all of them
+pub turn-fits : (W n c : ℕ) → c < n / W → W * c + W ≤ n
+turn-fits W n c l = omega (arith, mul-suc W c, mul-le-mul_left W l, mul-div-le n W)
+
+pub turns-all : {W n : ℕ} → 0 < W → Multiple W n → W * (n / W) ≡ n
+turns-all {W} {n} some h = rw h.is (ap (λ (x : ℕ). W * x) (mul-div_cancel h.times some) ∙ mul_comm W h.times)
+
+pub eights : (m : ℕ) → 3 ≤ m → 8 * (2 ^ m / 8) ≡ 2 ^ m
+eights m le = turns-all (omega arith) (power-multiple 3 m le)
+
+pub sixteens : (m : ℕ) → 4 ≤ m → 16 * (2 ^ m / 16) ≡ 2 ^ m
+sixteens m le = turns-all (omega arith) (power-multiple 4 m le)
 
 -- a run of W positions, where a whole number of them makes the distance
 module _ (t p : ℕ) {W : ℕ} (step : Multiple W (2 ^ t)) (whole : Multiple W p) where
@@ -67,7 +86,7 @@ after-upper t p z = next-digit t p ∙ omega arith
 pub after_lower : (t p : ℕ) → digit t p ≡ 1 → digit t (p + 2 ^ t) ≡ 0
 after_lower t p o = next-digit t p ∙ omega arith
 
--- behind a whole number of pairs of runs
+-- after a whole number of pairs of runs
 pub digit-behind : (t p i : ℕ) → Multiple (2 ^ suc t) p → digit t (p + i) ≡ digit t i
 digit-behind t p i h =
     let c : ℕ = h.times in

@@ -1,6 +1,7 @@
 pub mod Combined
 pub mod Digits
 pub mod Filled
+pub mod Made
 pub mod Merged
 pub mod Parts
 pub mod Places

@@ -8,7 +8,6 @@ use native.Mathlib.Omega.{arith}
 use lib.Bits.{bit_and, and_le_l}
 use lib.Dec.{eqb, ltb}
 use lib.IntN.{ℤ, nat_abs}
-use lib.ListN.{length}
 use lib.Pow.{pow_pos, pow_mono}
 use borrow.Author.Tests.{eq-eqb, ne_eqb, ltb-true, eqb-true}
 use Rattle.calls.specs.Every.{every}
@@ -33,7 +32,7 @@ use Rattle.sweeps.proofs.Places.{upper-test, lower-test, new-upper, new-lower}
 abbrev pub upper_of : ℕ → ℕ → ℕ
 upper_of d i = i + bit_and i (8 - d)
 
--- each of the sixteen positions is the upper one of its pair, or the distance behind it
+-- each of the sixteen positions is the upper one of its pair, or the distance after it
 abbrev is_of_pair : ℕ → ℕ → Bool
 is_of_pair d i = ltb (pair_of d i) 8 && eqb (upper_of d (pair_of d i) + bit_and i d) i
 
@@ -65,6 +64,9 @@ module _ (d i : ℕ) (h : OfPairs d) (l : i < 16) where
   of_pair : upper_of d (pair_of d i) + bit_and i d ≡ i
   of_pair = eqb-true _ i tested.1
 
+pub pair-fits : (t i : ℕ) → 1 ≤ t → t ≤ 2 → i < 16 → pair_of (2 ^ t) i < 8
+pair-fits t i some most l = pair_lt (2 ^ t) i (of-pairs t some most) l
+
 -- the upper position of a pair, and its partner, are among the sixteen
 pub upper_lt : (d i : ℕ) → i < 8 → upper_of d i < 16
 upper_lt d i l = omega (arith, and_le_l i (8 - d))
@@ -85,7 +87,7 @@ merged-new rule t x y w upper lower of hx hy us ls i l =
     rw (ne_eqb (bit_and i (2 ^ t)) 0 (λ n. omega (arith, lower-test t i o, pow_pos t)))
     (ls h (pair_lt (2 ^ t) i of l) ∙ sym (new-lower rule t x y w i hx hy (upper_of (2 ^ t) h) e o)))
 
--- the messages of eight pairs, gathered from the places x and y and the distance behind them
+-- the messages of eight pairs, gathered from the places x and y and the distance after them
 pub record GatheredPairs (rule : MinSum) (d x y : ℕ) (w xu xl yu yl : List ℤ) : Type 0 where
   pub ready : ReadableRun rule 16 d x y w
   pub x-upper : Gathered x (8 - d) w xu
@@ -128,3 +130,6 @@ module _ {rule : MinSum} {d x y : ℕ} {w xu xl yu yl : List ℤ} (h : GatheredP
 
   pub pair-lower : add rule (f rule (message_at xu i) (message_at yu i)) (message_at xl i) ≡ lower_at rule d x y w p
   pair-lower = rw (h.x-upper i l, h.y-upper i l, xl-is)
+
+-- what the check tries where they are merged
+pub ruleset merging = (distance_le, pair-fits)

@@ -1,6 +1,6 @@
--- Arrays, filled one after the other, and runs of the workspace that are written one after the other.
+-- Arrays, filled one after the other, and runs of the workspace by what they hold.
 use Prim.Native.Nat.{ℕ, zero, suc, ◌+◌, ◌≤◌, ◌<◌}
-use mathlib.Core.Path.{◌≡◌, refl, sym, ap, ◌∙◌}
+use mathlib.Core.Path.{◌≡◌, refl, ap, ◌∙◌}
 use mathlib.Core.List.{List, [], ◌∷◌}
 use native.Mathlib.Numerals.{add-one}
 use native.Mathlib.Omega.{arith}
@@ -8,15 +8,7 @@ use lib.IntN.{ℤ, pos}
 use lib.ListN.{length, set, get_or}
 use borrow.Rule.Slice.PartMut.{put_mid}
 use Rattle.calls.specs.LentMemory.{overwrite, overwrite_from}
-use Rattle.calls.specs.LentMemoryLaws.{
-  length-overwrite,
-  overwrite-at,
-  overwrite-store,
-  overwrite-same,
-  length-overwrite_from,
-  overwrite_from-none,
-  overwrite_from-store,
-}
+use Rattle.calls.specs.LentMemoryLaws.{length-overwrite, overwrite-at, overwrite-store, overwrite-same}
 use Rattle.sweeps.specs.Private.{message_at}
 
 -- the first i elements of an array of n are those of g
@@ -42,23 +34,6 @@ module _ {n i : ℕ} {g : ℕ → ℤ} {values : List ℤ} (h : ArrayPart n i g 
 
   pub array_at : i ≡ n → (j : ℕ) → j < n → message_at values j ≡ g j
   array_at e j l = rw (h.is, e) (overwrite-at n g h.old j (pos 0) l (omega (arith, h.long)))
-
--- the first i elements of the run from a on are those of g
-pub record RunPart (a i : ℕ) (g : ℕ → ℤ) (old w : List ℤ) : Type 0 where
-  pub is : w ≡ overwrite_from a i g old
-
-pub run_none : {a : ℕ} {g : ℕ → ℤ} {old : List ℤ} → RunPart a 0 g old old
-run_none {a} {g} {old} = record { is = sym (overwrite_from-none a g old) }
-
-module _ {a i : ℕ} {g : ℕ → ℤ} {old w : List ℤ} (h : RunPart a i g old w) where
-  pub run_length : length w ≡ length old
-  run_length = ap length h.is ∙ simp length-overwrite_from
-
-  pub run-next : a + i < length old → {v : ℤ} → v ≡ g i → RunPart a (i + 1) g old (set w (a + i) v)
-  run-next room e = record { is = rw (e, h.is, add-one i) (overwrite_from-store a i g old room) }
-
-  pub run-all : {n : ℕ} → i ≡ n → w ≡ overwrite_from a n g old
-  run-all e = rw e at h.is
 
 -- a run by its values alone, and by a list of them that is copied into it
 module _ {A : Type 0} where

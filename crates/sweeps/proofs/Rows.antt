@@ -1,59 +1,51 @@
--- One turn of a loop that writes a whole row.
-use Prim.Native.Nat.{ℕ, ◌+◌, ◌*◌, ◌^◌, ◌≤◌, ◌<◌}
-use mathlib.Core.Path.{◌≡◌, refl, sym, ap, ◌∙◌}
-use mathlib.Core.Bool.{Bool, true, false, cond}
+-- Runs and rows of the workspace that a loop fills.
+use Prim.Native.Nat.{ℕ, ◌+◌, ◌-◌, ◌*◌, ◌^◌, ◌≤◌, ◌<◌}
+use mathlib.Core.Path.{◌≡◌, refl, ◌∙◌}
 use mathlib.Core.List.{List}
-use native.Mathlib.Numerals.{add-one}
+use native.Mathlib.Nat.{suc-mul, mul-le-mul_right}
 use native.Mathlib.Omega.{arith}
+use borrow.Rule.Slice.PartMut.{put_mid}
 use lib.IntN.{ℤ, pos}
-use lib.ListN.{length, set}
-use mir.Facts.{to_z_pos}
-use mir.Syntax.{w16}
-use mir.Val.{to_z}
-use Rattle.calls.specs.Bounds.{largest_ceiling, workspace_length}
+use lib.ListN.{length, take, drop}
+use Rattle.std.proofs.Common.{length-take-le}
+use Rattle.std.proofs.lemmas.List.{length-drop}
+use Rattle.calls.specs.Bounds.{workspace_length}
 use Rattle.calls.specs.LentMemory.{overwrite_from}
-use Rattle.calls.specs.LentMemoryLaws.{length-overwrite_from, overwrite_from-none, overwrite_from-store}
-use Rattle.calls.specs.Signs.{flipped}
-use Rattle.polar.specs.Mask.{by_kind, is_information}
-use Rattle.polar.specs.MaskLaws.{kind-information, kind-frozen, frozen-bit-zero}
+use Rattle.calls.specs.WrittenLaws.{Written, written-length, written_at, written_next}
 use Rattle.sweeps.specs.Workspace.{set_row}
-use Rattle.sweeps.specs.WorkspaceLaws.{row_lt}
+use Rattle.sweeps.proofs.Parts.{copied, overwrite_from-same}
 
--- the first i messages of row k are those of g
-pub record RowPart (m k i : ℕ) (g : ℕ → ℤ) (old w : List ℤ) : Type 0 where
-  pub is : w ≡ overwrite_from (k * 2 ^ m) i g old
+-- the n elements from place a on
+width : (a n : ℕ) → a + n - a ≡ n
+width a n = omega arith
 
-pub row-none : {m k : ℕ} {g : ℕ → ℤ} {old : List ℤ} → RowPart m k 0 g old old
-row-none {m} {k} {g} {old} = record { is = sym (overwrite_from-none (k * 2 ^ m) g old) }
+part-length : (a n : ℕ) (l : List ℤ) → a + n ≤ length l → length (take (a + n - a) (drop a l)) ≡ n
+part-length a n l fits =
+    rw (width a n) (length-take-le n (drop a l) (omega (arith, length-drop a l)))
 
-module _ {m k i : ℕ} {g : ℕ → ℤ} {old w : List ℤ} (h : RowPart m k i g old w) where
-  pub row-length : length w ≡ length old
-  row-length = ap length h.is ∙ simp length-overwrite_from
+row-fits : (m k n room : ℕ) → n ≡ 2 ^ m → k < 2 * (m + 1) → workspace_length m ≤ room → k * n + n ≤ room
+row-fits m k n room e inside h = rw e (omega (arith, suc-mul k (2 ^ m), mul-le-mul_right (2 ^ m) inside))
 
-  pub row_next : workspace_length m ≤ length old → k < 2 * (m + 1) → i < 2 ^ m → {v : ℤ} → v ≡ g i
-      → RowPart m k (i + 1) g old (set w (k * 2 ^ m + i) v)
-  row_next room hk hi e =
-      record {
-        is = rw (e, h.is, add-one i)
-            (overwrite_from-store (k * 2 ^ m) i g old (omega (arith, row_lt m k i hk hi)));
-      }
+-- a run, each of its places written
+pub run-written : (a n : ℕ) {i : ℕ} {g : ℕ → ℤ} (old : List ℤ) {values : List ℤ} → a + n ≤ length old
+    → Written i g (take (a + n - a) (drop a old)) values → length (take (a + n - a) (drop a old)) ≤ i
+    → i ≤ length (take (a + n - a) (drop a old)) → put_mid a (a + n - a) old values ≡ overwrite_from a n g old
+run-written a n {i} {g} old {values} fits h last most =
+    let long : length (take (a + n - a) (drop a old)) ≡ n = part-length a n old fits in
+    copied a (a + n - a) n values old (pos 0) (width a n) (written-length h ∙ long) fits
+    ∙ overwrite_from-same a n _ g old (λ j l. written_at h j (pos 0) (omega (arith, last, long)) most)
 
-  pub row-all : i ≡ 2 ^ m → w ≡ set_row m k g old
-  unfolding set_row
-  row-all e = rw e at h.is
+-- row k, each of its places written
+pub row-written : (m k : ℕ) {n i : ℕ} {g : ℕ → ℤ} (old : List ℤ) {values : List ℤ} → n ≡ 2 ^ m → k < 2 * (m + 1)
+    → workspace_length m ≤ length old → Written i g (take (k * n + n - k * n) (drop (k * n) old)) values
+    → length (take (k * n + n - k * n) (drop (k * n) old)) ≤ i
+    → i ≤ length (take (k * n + n - k * n) (drop (k * n) old))
+    → put_mid (k * n) (k * n + n - k * n) old values ≡ set_row m k g old
+unfolding set_row
+row-written m k {n} old en inside room h last most =
+    run-written (k * n) n old (row-fits m k n (length old) en inside room) h last most ∙ rw en refl
 
--- a place of the workspace, in the code's terms
-pub place : (m k i n room : ℕ) → n ≡ 2 ^ m → k < 2 * (m + 1) → i < 2 ^ m → workspace_length m ≤ room → k * n + i < room
-place m k i n room e hk hi h = rw e (omega (arith, row_lt m k i hk hi))
+-- what the check tries at a loop that fills a row, or a run
+pub ruleset row_filling = (written_next, row-written)
 
--- the prior of a mask byte, as the code takes it
-pub prior-is : (C byte : ℕ) → C ≤ largest_ceiling
-    → cond (is_information byte) (pos 0) (to_z w16 C) ≡ by_kind byte (pos 0) (λ bit. flipped bit (pos C))
-prior-is C byte h = go (is_information byte) refl
-  where
-    go : (b : Bool) → is_information byte ≡ b
-        → cond b (pos 0) (to_z w16 C) ≡ by_kind byte (pos 0) (λ bit. flipped bit (pos C))
-    go true e = sym (kind-information (pos 0) (λ bit. flipped bit (pos C)) byte e)
-    go false e =
-        to_z_pos w16 {n = C} (omega arith)
-        ∙ sym (kind-frozen (pos 0) (λ bit. flipped bit (pos C)) byte e ∙ rw (frozen-bit-zero byte))
+pub ruleset run_filling = (written_next, run-written)

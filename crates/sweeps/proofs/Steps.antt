@@ -7,8 +7,8 @@ use native.Mathlib.Omega.{arith}
 use lib.IntN.{ℤ}
 use Rattle.message.specs.declared.MinSum.{MinSum}
 use Rattle.sweeps.specs.Iteration.{left_steps, right_steps}
-use Rattle.sweeps.specs.IterationLaws.{left-joined, right-joined}
-use Rattle.sweeps.specs.Private.{row_step, Rows}
+use Rattle.sweeps.specs.IterationLaws.{left-joined, right-joined, valid-left, valid-right}
+use Rattle.sweeps.specs.Private.{row_step}
 
 module _ (m t : ℕ) (h : t < m) where
   module _ (rule : MinSum) (old w y : List ℤ) where
@@ -28,3 +28,8 @@ module _ (m t : ℕ) (h : t < m) where
     right-next before is =
         let s : m - 1 - t ≡ m - suc t = omega arith in
         is ∙ rw (add-one t, s, before) (sym (right-joined rule m t (right_steps rule m t old)))
+
+-- what the check tries in each sweep
+pub ruleset left_turn = (valid-left, left-next)
+
+pub ruleset right_turn = (valid-right, right-next)

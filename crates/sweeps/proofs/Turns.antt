@@ -1,10 +1,11 @@
 -- The turns of the loops over a row: a part of it filled from the front, or runs of upper positions and their partners.
 -- n and d are N and the distance, as the code has them.
-use Prim.Native.Nat.{ℕ, suc, ◌+◌, ◌-◌, ◌*◌, ◌^◌, ◌≤◌, ◌<◌}
+use Prim.Native.Nat.{ℕ, suc, ◌+◌, ◌-◌, ◌*◌, ◌/◌, ◌^◌, ◌≤◌, ◌<◌}
 use mathlib.Core.Path.{◌≡◌, refl, sym, ap, ◌∙◌}
 use mathlib.Core.List.{List}
-use mathlib.Core.Logic.{◌⊎◌, inl, inr}
 use native.Mathlib.Decide.{dec_lt}
+use native.Mathlib.Nat.{mul_comm, mul-suc}
+use native.Mathlib.Numerals.{add-one}
 use native.Mathlib.Omega.{arith}
 use lib.Bits.{bit_and}
 use lib.IntN.{ℤ}
@@ -12,16 +13,7 @@ use lib.ListN.{length}
 use lib.Pow.{pow_pos}
 use Rattle.calls.specs.LentMemory.{overwrite_from}
 use Rattle.polar.specs.Columns.{digit}
-use Rattle.polar.specs.DigitLaws.{
-  Multiple,
-  multiple-none,
-  multiple-next,
-  digit-cases,
-  mask-clear,
-  mask-set,
-  weight-le,
-  partner-lt,
-}
+use Rattle.polar.specs.DigitLaws.{Multiple, mask-clear, mask-set, partner-lt}
 use Rattle.message.specs.declared.MinSum.{MinSum}
 use Rattle.sweeps.specs.WorkspaceLaws.{row_lt}
 use Rattle.sweeps.specs.IterationLaws.{WorkspaceValid}
@@ -39,7 +31,9 @@ use Rattle.sweeps.specs.Private.{
 use Rattle.sweeps.proofs.Digits.{
   multiple-trans,
   power-multiple,
-  run-fits,
+  multiple-less,
+  turn-fits,
+  turns-all,
   same-digit,
   after-upper,
   after_lower,
@@ -70,35 +64,43 @@ pub front-all : {rule : MinSum} {m t k x y n p : ℕ} {old w : List ℤ} → n �
     → FilledFront rule m t k x y p old w → p ≡ n → w ≡ row_step rule m t k x y old
 front-all en rows h e = filled-all h rows (λ j l. omega arith)
 
--- 2 ^ s at a time, in whole pairs of runs
-module _ {rule : MinSum} {m t k x y n d : ℕ} {old w : List ℤ} (en : n ≡ 2 ^ m) (ed : d ≡ 2 ^ t) (s p : ℕ) (le : s ≤ m)
-    (wide : suc t ≤ s) (rows : Rows m t k x y) (whole : Multiple (2 ^ s) p) (inside : p < n)
-    (h : FilledFront rule m t k x y p old w) where
-  front_end : p + 2 ^ s ≤ 2 ^ m
-  front_end = run-fits (power-multiple s m le) whole (omega (arith, en))
+-- 2 ^ s at a time, in whole pairs of runs: turn c
+module _ {rule : MinSum} {m t k x y n d : ℕ} {old w : List ℤ} (en : n ≡ 2 ^ m) (ed : d ≡ 2 ^ t) (s c : ℕ)
+    (wide : suc t ≤ s) (rows : Rows m t k x y) (inside : c < 2 ^ m / 2 ^ s)
+    (h : FilledFront rule m t k x y (2 ^ s * c) old w) where
+  abbrev front : ℕ
+  front = 2 ^ s * c
 
-  pub front-readable : ReadableRun rule (2 ^ s) d (x * n + p) (y * n + p) w
-  front-readable = part-readable en ed p (2 ^ s) front_end rows h
+  front_whole : Multiple (2 ^ s) front
+  front_whole = record { times = c; is = mul_comm (2 ^ s) c }
 
-  pub front-room : k * n + p + 2 ^ s ≤ length w
-  front-room = part_room en ed p (2 ^ s) front_end rows h k rows.written (pow_pos s)
+  front_after : 2 ^ s * (c + 1) ≡ front + 2 ^ s
+  front_after = rw (add-one c) (mul-suc (2 ^ s) c)
 
-  pub front-next : (g : ℕ → ℤ) → ((i : ℕ) → i < 2 ^ s → g i ≡ new_at rule d (x * n + p) (y * n + p) w i) → {v : List ℤ}
-      → v ≡ overwrite_from (k * n + p) (2 ^ s) g w
-      → (p + 2 ^ s ≤ n) × Multiple (2 ^ s) (p + 2 ^ s) × FilledFront rule m t k x y (p + 2 ^ s) old v
-  front-next g new e = (
-    omega (arith, front_end, en),
-    multiple-next whole,
-    filled-run h rows p (2 ^ s) g front_end (λ j. j < p + 2 ^ s)
-        (λ i l. let r = part-readable refl refl p (2 ^ s) front_end rows h i l in
-        (rw (en, ed) at (new i l))
-        ∙ new-joined rule m t x y p i w r.before.0 r.before.1
-        (digit-behind t p i (multiple-trans (power-multiple (suc t) s wide) whole))
-        ∙ still-wanted h rows (p + i) (omega (arith, front_end)))
-        (λ j l b. b)
-        (λ j l b. omega arith)
-        (rw en at e),
-  )
+  front_end : front + 2 ^ s ≤ 2 ^ m
+  front_end = turn-fits (2 ^ s) (2 ^ m) c inside
+
+  pub front-readable : ReadableRun rule (2 ^ s) d (x * n + front) (y * n + front) w
+  front-readable = part-readable en ed front (2 ^ s) front_end rows h
+
+  pub front-room : k * n + front + 2 ^ s ≤ length w
+  front-room = part_room en ed front (2 ^ s) front_end rows h k rows.written (pow_pos s)
+
+  pub front-next : (g : ℕ → ℤ)
+      → ((i : ℕ) → i < 2 ^ s → g i ≡ new_at rule d (x * n + front) (y * n + front) w i) → {v : List ℤ}
+      → v ≡ overwrite_from (k * n + front) (2 ^ s) g w
+      → FilledFront rule m t k x y (2 ^ s * (c + 1)) old v
+  front-next g new e =
+      rw front_after
+      (filled-run h rows front (2 ^ s) g front_end (λ j. j < front + 2 ^ s)
+      (λ i l. let r = part-readable refl refl front (2 ^ s) front_end rows h i l in
+      (rw (en, ed) at (new i l))
+      ∙ new-joined rule m t x y front i w r.before.0 r.before.1
+      (digit-behind t front i (multiple-trans (power-multiple (suc t) s wide) front_whole))
+      ∙ still-wanted h rows (front + i) (omega (arith, front_end)))
+      (λ j l b. b)
+      (λ j l b. omega arith)
+      (rw en at e))
 
 -- a row of eight positions, at once
 module _ {rule : MinSum} {m t k x y : ℕ} {w : List ℤ} (em : m ≡ 3) (valid : WorkspaceValid rule m w)
@@ -112,17 +114,17 @@ module _ {rule : MinSum} {m t k x y : ℕ} {w : List ℤ} (em : m ≡ 3) (valid 
   pub octet-readable : ReadableRun rule 8 d (x * 8) (y * 8) w
   octet-readable =
       rw (first-place x, first-place y)
-      (front-readable eight ed 3 0 (omega arith) (omega (arith, rows.distance)) rows (multiple-none 8) (omega arith)
+      (front-readable eight ed 3 0 (omega (arith, rows.distance)) rows (omega (arith, eight))
       (front-none valid))
 
   pub octet-all : (values : List ℤ) {v : List ℤ} → NewEight rule d (x * 8) (y * 8) w values
       → v ≡ overwrite_from (k * 8) 8 (message_at values) w → v ≡ row_step rule m t k x y w
   octet-all values new e =
       let done =
-      front-next eight ed 3 0 (omega arith) (omega (arith, rows.distance)) rows (multiple-none 8) (omega arith)
+      front-next eight ed 3 0 (omega (arith, rows.distance)) rows (omega (arith, eight))
       (front-none valid) (message_at values) (rw (first-place x, first-place y) at new) (rw (first-place k) at e)
       in
-      front-all eight rows done.2 refl
+      front-all eight rows done refl
 
 -- ---- in pairs: the upper positions below a are done, and the lower ones below b
 abbrev pub PairsDone : ℕ → ℕ → ℕ → ℕ → Type 0
@@ -132,18 +134,27 @@ PairsDone t a b j = (digit t j ≡ 0 → j < a) × (digit t j ≡ 1 → j < b)
 abbrev pub FilledPairs : MinSum → ℕ → ℕ → ℕ → ℕ → ℕ → ℕ → List ℤ → List ℤ → Type 0
 FilledPairs rule m t k x y p old w = Filled rule m t k x y (PairsDone t p (p + 2 ^ t)) old w
 
-pub pairs-none : {rule : MinSum} {m t k x y : ℕ} {old : List ℤ} → WorkspaceValid rule m old
-    → FilledPairs rule m t k x y 0 old old
-pairs-none {t = t} valid =
-    filled_none valid
-    (λ j d. digit-cases t j (λ z. omega (arith, d.0 z)) (λ o. omega (arith, d.1 o, weight-le t j o)))
+-- runs of W = 2 ^ s positions, which lie on one side: turn r, before the last run, which is of lower positions
+module _ {rule : MinSum} {m t k x y n d W : ℕ} {old w : List ℤ} (en : n ≡ 2 ^ m) (ed : d ≡ 2 ^ t) (s r : ℕ)
+    (eW : W ≡ 2 ^ s) (le : s ≤ t) (turn : r < (n - d) / 2 ^ s) (rows : Rows m t k x y)
+    (h : FilledPairs rule m t k x y (W * r) old w) where
+  abbrev p : ℕ
+  p = W * r
 
--- the W positions from p on lie on one side
-module _ {rule : MinSum} {m t k x y n d : ℕ} {old w : List ℤ} (en : n ≡ 2 ^ m) (ed : d ≡ 2 ^ t) {W : ℕ} (p : ℕ)
-    (some : 0 < W) (step : Multiple W (2 ^ t)) (whole : Multiple W p) (inside : p < 2 ^ m) (rows : Rows m t k x y)
-    (h : FilledPairs rule m t k x y p old w) where
-  pub run_end : p + W ≤ 2 ^ m
-  run_end = run-fits (multiple-trans step (power-multiple t m (omega (arith, rows.distance)))) whole inside
+  some : 0 < W
+  some = rw eW (pow_pos s)
+
+  step : Multiple W (2 ^ t)
+  step = rw eW (power-multiple s t le)
+
+  whole : Multiple W p
+  whole = record { times = r; is = mul_comm W r }
+
+  next : W * (r + 1) ≡ p + W
+  next = rw (add-one r) (mul-suc W r)
+
+  run_end : p + W ≤ 2 ^ m
+  run_end = omega (arith, en, ed, turn-fits W (n - d) r (rw eW turn))
 
   same : (i : ℕ) → i < W → digit t (p + i) ≡ digit t p
   same i l = same-digit t p step whole i l
@@ -161,7 +172,7 @@ module _ {rule : MinSum} {m t k x y n d : ℕ} {old w : List ℤ} (en : n ≡ 2 
     pub pairs_end : p + 2 ^ t + W ≤ 2 ^ m
     pairs_end =
         let i : ℕ = W - 1 in
-        let l : i < W = omega arith in
+        let l : i < W = omega (arith, some) in
         omega (arith, run_end, partner-lt m t (p + i) rows.distance (omega (arith, run_end)) (upper i l))
 
     -- what joining them requires
@@ -222,18 +233,27 @@ module _ {rule : MinSum} {m t k x y n d : ℕ} {old w : List ℤ} (en : n ≡ 2 
     }
 
   -- the mask test chooses
-  pub pairs-turn : {v : List ℤ}
-      → (bit_and p d ≡ 0) × (v ≡ pair_runs rule d (k * n + p) (x * n + p) (y * n + p) W w)
-      ⊎ (bit_and p d ≡ 0 → ⊥) × (v ≡ w)
-      → (p + W ≤ n) × Multiple W (p + W) × FilledPairs rule m t k x y (p + W) old v
-  pairs-turn (inl (z, e)) =
-      (omega (arith, run_end, en), multiple-next whole, pairs_next (mask-clear p t d ed z) e)
-  pairs-turn (inr (o, e)) =
-      (omega (arith, run_end, en), multiple-next whole, rw e (pairs-skip (mask-set p t d ed o)))
+  pub run-readable : bit_and p d ≡ 0 → ReadableRun rule W d (x * n + p) (y * n + p) w
+  run-readable z = (pairs-ready (mask-clear p t d ed z)).0
+
+  pub run-room : bit_and p d ≡ 0 → k * n + p + d + W ≤ length w
+  run-room z = (pairs-ready (mask-clear p t d ed z)).1
+
+  pub upper-turn : {v : List ℤ} → bit_and p d ≡ 0
+      → v ≡ pair_runs rule d (k * n + p) (x * n + p) (y * n + p) W w → FilledPairs rule m t k x y (W * (r + 1)) old v
+  upper-turn z e = rw next (pairs_next (mask-clear p t d ed z) e)
+
+  pub lower-turn : {v : List ℤ} → (bit_and p d ≡ 0 → ⊥) → v ≡ w → FilledPairs rule m t k x y (W * (r + 1)) old v
+  lower-turn o e = rw (next, e) (pairs-skip (mask-set p t d ed o))
 
 -- the last run is of lower positions
-pub pairs-all : {rule : MinSum} {m t k x y : ℕ} (p : ℕ) {old w : List ℤ} → FilledPairs rule m t k x y p old w
-    → Rows m t k x y → 2 ^ m - 2 ^ t ≤ p → w ≡ row_step rule m t k x y old
-pairs-all {m = m} {t = t} p h rows e =
+pub pairs-all : {rule : MinSum} {m t k x y n d W : ℕ} {old w : List ℤ} → n ≡ 2 ^ m → d ≡ 2 ^ t → (s r : ℕ) → W ≡ 2 ^ s
+    → s ≤ t → r ≡ (n - d) / 2 ^ s → Rows m t k x y → FilledPairs rule m t k x y (W * r) old w
+    → w ≡ row_step rule m t k x y old
+pairs-all {m = m} {t = t} {n = n} {d = d} {W = W} en ed s r eW le er rows h =
+    let ends : Multiple (2 ^ s) (n - d) =
+    rw (en, ed) (multiple-less (power-multiple s m (omega (arith, rows.distance))) (power-multiple s t le))
+    in
+    let all : W * r ≡ n - d = rw (eW, er) (turns-all (pow_pos s) ends) in
     filled-all h rows
-    (λ j l. (λ z. omega (arith, partner-lt m t j rows.distance l z), λ o. omega arith))
+    (λ j l. (λ z. omega (arith, all, en, ed, partner-lt m t j rows.distance l z), λ o. omega (arith, all, en, ed)))

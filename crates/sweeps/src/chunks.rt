@@ -39,6 +39,7 @@ fn lower_of(rule: MinSum, own: &[i16; 8], x: &[i16; 8], y: &[i16; 8], i: usize) 
 }
 
 // The new messages of eight pairs over the distance 2^T, in the order of their positions.
+#[tactic(auto, using(crate::proofs::Merged::merging, crate::proofs::Rows::run_filling))]
 fn put_merged<const T: u32>(upper: &[i16; 8], lower: &[i16; 8], at: usize, work: &mut [i16])
     requires distance { (1 ≤ T) × (T ≤ 2) }
     requires at_in_bounds { at + 16 ≤ length work.old }
@@ -46,12 +47,15 @@ fn put_merged<const T: u32>(upper: &[i16; 8], lower: &[i16; 8], at: usize, work:
         ≡ overwrite_from at 16 (merged_at (2 ^ T) upper.now lower.now) work.old }
 {
     let d = polar::power_of_two(T);
-    for i in 0..16 {
+    for (i, message) in work[at..at + 16].iter_mut().enumerate() {
         let pair = (i & (d - 1)) + (i >> 1 & (8 - d));
-        work[at + i] = messages::pick(i & d == 0, upper[pair], lower[pair]);
+        *message = messages::pick(i & d == 0, upper[pair], lower[pair]);
     }
 }
 
+// The new messages of sixteen positions. One loop fills both arrays: the compiler would call an `array::from_fn` of
+// each, and an iteration take half as long again.
+#[tactic(auto, using(crate::proofs::Merged::distance_le))]
 fn chunk<const T: u32>(rule: MinSum, to: usize, x: usize, y: usize, work: &mut [i16])
     requires distance { (1 ≤ T) × (T ≤ 2) }
     requires readable_run { ReadableRun rule 16 (2 ^ T) x y work.old }
@@ -72,6 +76,7 @@ fn chunk<const T: u32>(rule: MinSum, to: usize, x: usize, y: usize, work: &mut [
     put_merged::<T>(&upper, &lower, to, work);
 }
 
+#[tactic(auto, using(crate::proofs::Digits::sixteens))]
 pub fn by_chunks<const T: u32>(rule: MinSum, step: Step, work: &mut [i16])
     requires workspace_valid { WorkspaceValid rule step.m work.old }
     requires t_is { (step.t ≡ T) × (1 ≤ T) × (T ≤ 2) × (4 ≤ step.m) }
@@ -79,9 +84,8 @@ pub fn by_chunks<const T: u32>(rule: MinSum, step: Step, work: &mut [i16])
         ≡ row_step rule step.m step.t step.k step.x step.y work.old }
 {
     let n = polar::power_of_two(step.m);
-    let mut p = 0;
-    while p < n {
+    for c in 0..n >> 4 {
+        let p = 16 * c;
         chunk::<T>(rule, step.k * n + p, step.x * n + p, step.y * n + p, work);
-        p += 16;
     }
 }

@@ -5,7 +5,8 @@
 //
 // A step writes one row from two others (`step`). It has four shapes, a file each, all with one promise, `row_step`:
 // `row_step` chooses by the distance and the block length. `messages` has the formulas, and `arrays` what the shapes
-// share. Their loops over a row add the width by hand: `step_by` takes up to three instructions more a turn.
+// share. Their loops over a row count its turns, and a turn takes its position from that: `step_by` takes up to three
+// instructions more a turn.
 #![tactic(auto)]
 
 ghost use Rattle.std.specs.Prelude.{◌≡◌, ◌+◌, ◌*◌, ◌<◌, ◌≤◌, ◌^◌, pos, length, get_or};
@@ -59,6 +60,7 @@ fn row_step(rule: MinSum, step: Step, work: &mut [i16])
 }
 
 // L by steps m - 1 down to 0.
+#[tactic(auto, using(crate::proofs::Steps::left_turn))]
 fn left_sweep(rule: MinSum, m: u32, work: &mut [i16])
     requires { WorkspaceValid rule m work.old }
     ensures { work.new ≡ left_steps rule m m work.old }
@@ -78,6 +80,7 @@ fn left_sweep(rule: MinSum, m: u32, work: &mut [i16])
 }
 
 // R by steps 0 up to m - 1.
+#[tactic(auto, using(crate::proofs::Steps::right_turn))]
 fn right_sweep(rule: MinSum, m: u32, work: &mut [i16])
     requires { WorkspaceValid rule m work.old }
     ensures { work.new ≡ right_steps rule m m work.old }
@@ -97,6 +100,7 @@ fn right_sweep(rule: MinSum, m: u32, work: &mut [i16])
 }
 
 // One iteration.
+#[tactic(auto, using(crate::proofs::Steps::left_turn))]
 pub fn iterate(rule: MinSum, m: u32, work: &mut [i16])
     requires { WorkspaceValid rule m work.old }
     ensures { work.new ≡ iteration rule m work.old }
@@ -114,6 +118,7 @@ fn clear(work: &mut [i16], n: usize)
 }
 
 // Column 0 of R: the ceiling where frozen, since every frozen bit is 0, and 0 elsewhere.
+#[tactic(auto, using(crate::proofs::Rows::row_filling))]
 fn set_prior(m: u32, ceiling: u16, mask: &[u8], work: &mut [i16])
     requires { (m ≤ largest_m) × (ceiling ≤ largest_ceiling) × (2 ^ m ≤ length mask.now)
         × (workspace_length m ≤ length work.old) }
@@ -122,24 +127,26 @@ fn set_prior(m: u32, ceiling: u16, mask: &[u8], work: &mut [i16])
     let n = polar::power_of_two(m);
     let at = (m as usize + 1) * n;
     let top = ceiling as i16;
-    for i in 0..n {
-        work[at + i] = messages::pick(polar::is_information(mask[i]), 0, top);
+    for (i, message) in work[at..at + n].iter_mut().enumerate() {
+        *message = messages::pick(polar::is_information(mask[i]), 0, top);
     }
 }
 
 // Column m of L: the LLRs. (`copy_from_slice` would call memmove, which the library for C does not.)
+#[tactic(auto, using(crate::proofs::Rows::row_filling))]
 fn set_llr(m: u32, llr: &[i16], work: &mut [i16])
     requires { (m ≤ largest_m) × (2 ^ m ≤ length llr.now) × (workspace_length m ≤ length work.old) }
     ensures { work.new ≡ set_l m m (λ i. get_or llr.now i (pos 0)) work.old }
 {
     let n = polar::power_of_two(m);
     let at = m as usize * n;
-    for i in 0..n {
-        work[at + i] = llr[i];
+    for (i, message) in work[at..at + n].iter_mut().enumerate() {
+        *message = llr[i];
     }
 }
 
 // The start.
+#[tactic(auto, unfolding(crate::specs::Iteration::start))]
 pub fn begin(ceiling: u16, m: u32, mask: &[u8], llr: &[i16], work: &mut [i16])
     requires { (m ≤ largest_m) × (ceiling ≤ largest_ceiling) × (2 ^ m ≤ length mask.now)
         × (2 ^ m ≤ length llr.now) × (workspace_length m ≤ length work.old) }

@@ -8,18 +8,17 @@ use crate::get;
 use message::MinSum;
 
 // A choice of two values that are both at hand: no branch, so that loops over positions fill registers.
-pub fn pick(upper: bool, a: i16, b: i16) -> i16
-    ensures { result ≡ cond upper a b }
+pub fn pick(first: bool, a: i16, b: i16) -> i16
+    ensures { result ≡ cond first a b }
 {
-    if upper { a } else { b }
+    if first { a } else { b }
 }
 
-// The sum of two messages as it is. It fits, since a rule's ceiling is in range.
+// The sum of two messages as it is. It fits, since a rule's ceiling is in range: the clause alone needs the rule.
 fn sum(rule: MinSum, x: i16, y: i16) -> i16
     requires { (nat_abs x ≤ rule.ceiling) × (nat_abs y ≤ rule.ceiling) }
     ensures { result ≡ x +ℤ y }
 {
-    let _ = &rule.ceiling;
     x + y
 }
 

@@ -7,6 +7,7 @@ ghost use Rattle.sweeps.specs.IterationLaws.{WorkspaceValid};
 use crate::step::Step;
 use crate::{arrays, messages};
 use message::MinSum;
+use std::array;
 
 // The new messages of the eight positions from the places x and y on.
 fn eight_beside(rule: MinSum, masks: &[i16; 8], work: &[i16], x: usize, y: usize) -> [i16; 8]
@@ -14,13 +15,10 @@ fn eight_beside(rule: MinSum, masks: &[i16; 8], work: &[i16], x: usize, y: usize
     requires readable_run { ReadableRun rule 8 1 x y work.now }
     ensures { NewEight rule 1 x y work.now result }
 {
-    let mut values = [0i16; 8];
-    for i in 0..8 {
-        values[i] = messages::new_message(rule, masks[i] == 0, work, i, 1, x, y);
-    }
-    values
+    array::from_fn(|i| messages::new_message(rule, masks[i] == 0, work, i, 1, x, y))
 }
 
+#[tactic(auto, using(crate::proofs::Digits::eights))]
 pub fn by_neighbours(rule: MinSum, step: Step, work: &mut [i16])
     requires workspace_valid { WorkspaceValid rule step.m work.old }
     requires t_is { (step.t ≡ 0) × (4 ≤ step.m) }
@@ -29,10 +27,9 @@ pub fn by_neighbours(rule: MinSum, step: Step, work: &mut [i16])
 {
     let n = polar::power_of_two(step.m);
     let masks = arrays::mask_table(1);
-    let mut p = 0;
-    while p < n {
+    for e in 0..n >> 3 {
+        let p = 8 * e;
         let values = eight_beside(rule, &masks, work, step.x * n + p, step.y * n + p);
         arrays::put(&values, step.k * n + p, work);
-        p += 8;
     }
 }

@@ -6,6 +6,7 @@ ghost use Rattle.sweeps.specs.IterationLaws.{WorkspaceValid};
 use crate::step::Step;
 use crate::{arrays, messages};
 use message::MinSum;
+use std::array;
 
 // The new messages of a row over the distance 2^T: a constant, so that the compiler shuffles the register.
 fn octet<const T: u32>(rule: MinSum, masks: &[i16; 8], work: &[i16], x: usize, y: usize) -> [i16; 8]
@@ -15,13 +16,10 @@ fn octet<const T: u32>(rule: MinSum, masks: &[i16; 8], work: &[i16], x: usize, y
     ensures { NewEight rule (2 ^ T) x y work.now result }
 {
     let d = polar::power_of_two(T);
-    let mut values = [0i16; 8];
-    for i in 0..8 {
-        values[i] = messages::partnered(rule, masks[i] == 0, work, i, i ^ d, x, y);
-    }
-    values
+    array::from_fn(|i| messages::partnered(rule, masks[i] == 0, work, i, i ^ d, x, y))
 }
 
+#[tactic(auto, using(crate::proofs::Merged::distance_le))]
 pub fn by_octet(rule: MinSum, step: Step, work: &mut [i16])
     requires workspace_valid { WorkspaceValid rule step.m work.old }
     requires m_is { step.m ≡ 3 }

@@ -1,11 +1,14 @@
--- `row_step` meets its contract: both widths of a run divide the distance.
-use Prim.Native.Nat.{zero-le}
+-- `row_step` meets its contract: the widths of a run are 2 ^ 0 and 2 ^ 3.
+use Prim.Native.Nat.{◌≤◌, zero-le}
+use mathlib.Core.Path.{refl}
 use native.Mathlib.Omega.{arith}
-use Rattle.sweeps.proofs.Digits.{power-multiple}
+use lib.Count.{count_trailing_zeros}
 use Rattle.sweeps.proofs.row_step.Goals as goal
 
 pub by_runs-requires-clause-width : goal.by_runs-requires-clause-width
-by_runs-requires-clause-width c = (omega arith, power-multiple 0 c.args.step.t zero-le)
+unfolding count_trailing_zeros
+by_runs-requires-clause-width c = (refl, zero-le)
 
 pub by_runs-requires-then-step-ge3-clause-width : goal.by_runs-requires-then-step-ge3-clause-width
-by_runs-requires-then-step-ge3-clause-width c = (omega arith, power-multiple 3 c.args.step.t (omega arith))
+unfolding count_trailing_zeros
+by_runs-requires-then-step-ge3-clause-width c = let far : 3 ≤ c.args.step.t = omega arith in (refl, far)

@@ -1,11 +1,11 @@
--- `arrays::mask_table` meets its contract.
-use native.Mathlib.Omega.{arith}
-use lib.Bits.{and_le_l}
-use mir.Facts.{to_z_pos}
-use mir.Syntax.{w16}
-use Rattle.sweeps.proofs.Parts.{array-next}
+use Rattle.sweeps.proofs.Made.{made}
+use lib.IntN.{pos}
+use lib.Bits.{bit_and}
+use borrow.Author.Rules.{rules}
+use mathlib.Core.Path.{◌≡◌}
 use Rattle.sweeps.proofs.arrays.mask_table.Goals as goal
 
-pub loop-i-preserved : goal.loop-i-preserved
-loop-i-preserved c =
-    array-next c.loop-i.invariant (omega arith) (to_z_pos w16 (omega (arith, and_le_l c.loop-i.i c.args.d)))
+pub returns : goal.returns
+returns c =
+    made (λ i v. v ≡ pos (bit_and i c.args.d)) (λ i y q h. (search rules, search rules)) c.from_fn.result (pos 0)
+    c.from_fn.ensures.items

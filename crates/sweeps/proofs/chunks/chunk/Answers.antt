@@ -4,31 +4,9 @@ use mathlib.Core.Path.{refl, ◌∙◌}
 use native.Mathlib.Omega.{arith}
 use Rattle.calls.proofs.Signed.{told}
 use Rattle.sweeps.specs.Private.{new_at, new_run}
-use Rattle.sweeps.proofs.Merged.{
-  distance_le,
-  of-pairs,
-  merged-new,
-  xu-small,
-  xl-small,
-  yu-small,
-  yl-small,
-  pair-upper,
-  pair-lower,
-}
+use Rattle.sweeps.proofs.Merged.{of-pairs, merged-new, xu-small, xl-small, yu-small, yl-small, pair-upper, pair-lower}
 use Rattle.sweeps.proofs.Parts.{array-none, array-next, array_at, overwrite_from-same}
 use Rattle.sweeps.proofs.chunks.chunk.Goals as goal
-
-pub overflow_sub-d : goal.overflow_sub-d
-overflow_sub-d g c = omega (arith, distance_le g.row.T c.requires.distance.1)
-
-pub overflow_sub-d-2 : goal.overflow_sub-d-2
-overflow_sub-d-2 g c = omega (arith, distance_le g.row.T c.requires.distance.1)
-
-pub overflow_sub-d-3 : goal.overflow_sub-d-3
-overflow_sub-d-3 g c = omega (arith, distance_le g.row.T c.requires.distance.1)
-
-pub overflow_sub-d-4 : goal.overflow_sub-d-4
-overflow_sub-d-4 g c = omega (arith, distance_le g.row.T c.requires.distance.1)
 
 pub loop-i-init : goal.loop-i-init
 loop-i-init g c = (

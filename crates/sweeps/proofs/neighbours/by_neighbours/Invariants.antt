@@ -1,11 +1,7 @@
-use Prim.Native.Nat.{◌≤◌, ◌-◌}
-use Rattle.polar.specs.DigitLaws.{Multiple}
+use Prim.Native.Nat.{◌*◌}
 use Rattle.sweeps.proofs.Turns.{FilledFront}
 use Rattle.sweeps.proofs.neighbours.by_neighbours.Given as goal
 
-abbrev pub invariant-loop-p : goal.invariant-loop-p
-invariant-loop-p l = (l.p ≤ l.n) × Multiple 8 l.p
-    × FilledFront l.rule l.step.m l.step.t l.step.k l.step.x l.step.y l.p l.initial.work l.work
-
-abbrev pub decreases-loop-p : goal.decreases-loop-p
-decreases-loop-p l = l.n - l.p
+abbrev pub invariant-loop-e : goal.invariant-loop-e
+invariant-loop-e l =
+    FilledFront l.rule l.step.m l.step.t l.step.k l.step.x l.step.y (8 * l.e) l.initial.work l.work

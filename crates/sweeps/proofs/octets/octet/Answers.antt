@@ -1,22 +1,33 @@
 -- `octets::octet` meets its contract.
 use Prim.Native.Nat.{◌^◌}
-use mathlib.Core.Path.{◌∙◌}
+use mathlib.Core.Path.{◌≡◌, ◌∙◌}
+use borrow.Author.Rules.{rules}
 use native.Mathlib.Omega.{arith}
-use Rattle.calls.proofs.Signed.{told}
-use Rattle.sweeps.proofs.Parts.{array-next}
+use lib.Bits.{bit_xor}
+use lib.Dec.{eqb}
+use lib.IntN.{pos}
+use mir.Syntax.{w16}
+use mir.Val.{of_z}
+use Rattle.sweeps.specs.Private.{message_at, partnered_at}
+use Rattle.sweeps.proofs.Made.{callable, made}
 use Rattle.sweeps.proofs.Places.{table-test, partnered-new, partner-readable}
 use Rattle.sweeps.proofs.octets.octet.Goals as goal
 
-pub partnered-requires : goal.partnered-requires
-partnered-requires g c =
-    simp c.power_of_two-d.ensures (partner-readable g.row.T (c.requires.readable_run c.loop-i.i (omega arith)))
+pub from_fn-requires : goal.from_fn-requires
+from_fn-requires g c = (
+  omega arith,
+  callable _ (λ x p q h. search rules) 8 _ _
+      (λ x l. let r = partner-readable g.row.T (c.requires.readable_run x l) in
+      search (rules, c.power_of_two-d.ensures)),
+)
 
-pub loop-i-preserved : goal.loop-i-preserved
-loop-i-preserved g c =
+pub returns : goal.returns
+returns g c i l =
     let a = c.args in
-    let i = c.loop-i.i in
-    let before = (c.requires.readable_run i (omega arith)).before in
-    array-next c.loop-i.invariant (omega arith)
-    (told c.partnered.type_inv c.partnered.ensures
-    ∙ rw (table-test (2 ^ g.row.T) a.masks.now i c.requires.mask_table (omega arith), c.power_of_two-d.ensures)
-    (partnered-new a.rule g.row.T a.x a.y a.work.now i before.0 before.1))
+    let w = a.work.now in
+    let before = (c.requires.readable_run i l).before in
+    made (λ i v. v ≡ partnered_at a.rule (eqb (of_z w16 (message_at a.masks.now i)) 0) a.x a.y w i
+    (bit_xor i c.power_of_two-d.result)) (λ i y q h. (search rules, search rules)) c.from_fn.result (pos 0)
+    c.from_fn.ensures.items i l
+    ∙ rw (table-test (2 ^ g.row.T) a.masks.now i c.requires.mask_table l, c.power_of_two-d.ensures)
+    (partnered-new a.rule g.row.T a.x a.y w i before.0 before.1)

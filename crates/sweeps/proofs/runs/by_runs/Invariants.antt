@@ -1,11 +1,7 @@
-use Prim.Native.Nat.{◌≤◌, ◌-◌}
-use Rattle.polar.specs.DigitLaws.{Multiple}
+use Prim.Native.Nat.{◌*◌}
 use Rattle.sweeps.proofs.Turns.{FilledPairs}
 use Rattle.sweeps.proofs.runs.by_runs.Given as goal
 
-abbrev pub invariant-loop-p : goal.invariant-loop-p
-invariant-loop-p g l = (l.p ≤ l.n) × Multiple g.row.W l.p
-    × FilledPairs l.rule l.step.m l.step.t l.step.k l.step.x l.step.y l.p l.initial.work l.work
-
-abbrev pub decreases-loop-p : goal.decreases-loop-p
-decreases-loop-p g l = l.n - l.p
+abbrev pub invariant-loop-r : goal.invariant-loop-r
+invariant-loop-r g l =
+    FilledPairs l.rule l.step.m l.step.t l.step.k l.step.x l.step.y (g.row.W * l.r) l.initial.work l.work
