@@ -1,60 +1,32 @@
 -- The loop of a run: t steps are done, the run goes on, and the slices are those of the last step.
 use Prim.Native.Nat.{ℕ, zero, suc, ◌^◌, ◌≤◌, ◌<◌}
-use mathlib.Core.Path.{◌≡◌, refl, sym, ap, subst, ◌∙◌}
+use mathlib.Core.Path.{◌≡◌, sym, subst, ◌∙◌}
 use mathlib.Core.Bool.{true, false}
 use mathlib.Core.List.{List}
 use native.Mathlib.Omega.{arith}
 use lib.ListN.{get_or}
 use Rattle.criteria.specs.declared.Memory.{Memory}
 use Rattle.criteria.specs.declared.Progress.{Progress}
-use Rattle.criteria.specs.Memory.{nothing}
 use Rattle.settings.specs.declared.Settings.{Settings}
-use Rattle.settings.specs.Slices.{Slices, lengths_of}
+use Rattle.settings.specs.Slices.{Slices}
 use Rattle.settings.specs.SlicesLaws.{OutputsFit}
 use Rattle.decoder.specs.declared.Reason.TheVariants as reason
 use Rattle.std.specs.Prelude.{Ok}
 use Rattle.decoder.specs.declared.Ending.{Ending as CodeEnding}
 use Rattle.decoder.specs.Decoder.{mark_at, end_of, ended, result_of}
 use Rattle.decoder.specs.Run.{slices_after, EndsAs, OneIteration, RunGoesOn}
-use Rattle.decoder.specs.RunLaws.{
-  run-begins,
-  run-next,
-  run_ends,
-  run-ends-last,
-  slices-next,
-  slices-lengths,
-  slices-marks,
-}
-use Rattle.decoder.specs.OutputLaws.{fit_same}
+use Rattle.decoder.specs.RunLaws.{run-next, run_ends, run-ends-last, slices-next, slices-marks}
 
 pub record Steps (s : Settings) (mask : List ℕ) (t : ℕ) (memory : Memory) (first now : Slices) : Type 0 where
   pub goes_on : RunGoesOn s mask first.work t memory now.work
   pub slices : now ≡ slices_after s mask t first
 
-pub no_steps : (s : Settings) (mask : List ℕ) {memory : Memory} (first : Slices) → memory ≡ nothing
-    → Steps s mask 0 memory first first
-no_steps s mask first is = record {
-  goes_on =
-      subst (λ (m : Memory). RunGoesOn s mask first.work 0 m first.work) (sym is)
-      (run-begins s mask first.work);
-  slices = refl;
-}
-
 module _ {s : Settings} {mask : List ℕ} {t : ℕ} {memory : Memory} {first now : Slices}
     (h : Steps s mask t memory first now) where
-  pub steps-lengths : lengths_of now ≡ lengths_of first
-  steps-lengths = ap lengths_of h.slices ∙ slices-lengths s mask t first
-
-  pub steps-fit : OutputsFit (2 ^ s.m) first → OutputsFit (2 ^ s.m) now
-  steps-fit fits = fit_same steps-lengths fits
-
   -- one step more
   module _ {x : Slices} {r : Progress} (step : OneIteration s memory mask now x r) where
     next-slices : x ≡ slices_after s mask (suc t) first
     next-slices = slices-next s mask t first h.slices step
-
-    pub next-lengths : lengths_of x ≡ lengths_of first
-    next-lengths = ap lengths_of next-slices ∙ slices-lengths s mask (suc t) first
 
     module _ (fits : OutputsFit (2 ^ s.m) first) where
       marks : 1 ≤ t → (i : ℕ) → i < 2 ^ s.m → get_or now.mark i 0 ≡ mark_at s mask now.work i

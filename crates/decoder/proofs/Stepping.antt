@@ -23,43 +23,48 @@ use Rattle.decoder.specs.Decoder.{rule_of, soft_at, coded_soft_at, coded_mark_at
 use Rattle.decoder.specs.OutputLaws.{soft-size}
 use Rattle.decoder.specs.Run.{OneIteration}
 
-module _ (s : Settings) (mask : List ℕ) (before : Slices) (fits : OutputsFit (2 ^ s.m) before)
-    {soft coded_soft : List ℤ} {coded_mark : List ℕ}
-    {work : List ℤ} (work-is : work ≡ iteration (rule_of s) s.m before.work)
-    (soft-is : soft ≡ overwrite (2 ^ s.m) (soft_at s mask work) before.soft)
-    (coded_soft-is : coded_soft ≡ overwrite (2 ^ s.m) (coded_soft_at s work) before.coded_soft)
-    (coded_mark-is : coded_mark ≡ overwrite (2 ^ s.m) (coded_mark_at s work) before.coded_mark) where
+-- what an iteration writes, which is all but the marks
+pub record Iterated (s : Settings) (mask : List ℕ) (before : Slices) (soft coded_soft : List ℤ) (coded_mark : List ℕ)
+    (work : List ℤ) : Type 0 where
+  pub fits : OutputsFit (2 ^ s.m) before
+  pub work-is : work ≡ iteration (rule_of s) s.m before.work
+  pub soft-is : soft ≡ overwrite (2 ^ s.m) (soft_at s mask work) before.soft
+  pub coded_soft-is : coded_soft ≡ overwrite (2 ^ s.m) (coded_soft_at s work) before.coded_soft
+  pub coded_mark-is : coded_mark ≡ overwrite (2 ^ s.m) (coded_mark_at s work) before.coded_mark
+
+module _ {s : Settings} {mask : List ℕ} {before : Slices} {soft coded_soft : List ℤ} {coded_mark : List ℕ}
+    {work : List ℤ} (h : Iterated s mask before soft coded_soft coded_mark work) where
   softs : Written (2 ^ s.m) (soft_at s mask work) before.soft soft
-  softs = record { is = soft-is }
+  softs = record { is = h.soft-is }
 
   coded_marks : Written (2 ^ s.m) (coded_mark_at s work) before.coded_mark coded_mark
-  coded_marks = record { is = coded_mark-is }
+  coded_marks = record { is = h.coded_mark-is }
 
   -- what the criterion asks for
   pub triable : s.ceiling ≤ largest_ceiling → SoftValues (2 ^ s.m) soft × MarkBytes (2 ^ s.m) coded_mark
   triable top = (
-    soft-values softs fits.soft s.ceiling top (λ i l. soft-size (rule_of s) (get_or mask i 0) _ _),
-    mark-bytes (coded_soft_at s work) coded_marks fits.coded_mark,
+    soft-values softs h.fits.soft s.ceiling top (λ i l. soft-size (rule_of s) (get_or mask i 0) _ _),
+    mark-bytes (coded_soft_at s work) coded_marks h.fits.coded_mark,
   )
 
-  pub one-iteration : (memory : Memory) {criterion : Criterion} {mark : List ℕ} {r : Progress}
+  pub one-iteration : {memory : Memory} {criterion : Criterion} {mark : List ℕ} {r : Progress}
       → criterion ≡ criterion_of s
       → CriterionTried s.m criterion memory mask (λ i. get_or soft i (pos 0)) (λ i. get_or coded_mark i 0) before.mark
       mark r
       → OneIteration s memory mask before (slices soft mark coded_soft coded_mark work) r
-  one-iteration memory {criterion} {mark} {r} is given =
+  one-iteration {memory} {criterion} {mark} {r} is given =
       let tried = subst
       (λ (k : Criterion). CriterionTried s.m k memory mask (λ i. get_or soft i (pos 0)) (λ i. get_or coded_mark i 0)
       before.mark mark r) is given in
       let values : (i : ℕ) → i < 2 ^ s.m → get_or soft i (pos 0) ≡ soft_at s mask work i =
-      λ i l. written_at softs i (pos 0) l fits.soft in
+      λ i l. written_at softs i (pos 0) l h.fits.soft in
       let coded_values : (i : ℕ) → i < 2 ^ s.m → get_or coded_mark i 0 ≡ coded_mark_at s work i =
-      λ i l. written_at coded_marks i 0 l fits.coded_mark in
+      λ i l. written_at coded_marks i 0 l h.fits.coded_mark in
       record {
         slices =
-            slices-same soft-is (marked softs fits.soft before.mark mark tried.marks-are) coded_soft-is
-            coded_mark-is refl
-            ∙ ap (λ (w : List ℤ). outputs_of s mask w before) work-is;
+            slices-same h.soft-is (marked softs h.fits.soft before.mark mark tried.marks-are) h.coded_soft-is
+            h.coded_mark-is refl
+            ∙ ap (λ (w : List ℤ). outputs_of s mask w before) h.work-is;
         memory-is =
             tried.memory-is
             ∙ memory-next-same s.m (criterion_of s) mask memory (λ i. get_or before.mark i 0) _ (soft_at s mask work)

@@ -72,7 +72,7 @@ pub record Ending : Type 0 where
   pub reason : ℕ
 
 -- the first iteration from t on where the criterion holds, with reason 1; if there is none among it and the n
--- behind it, the last, with reason 2
+-- after it, the last, with reason 2
 abbrev pub ending_from : (ℕ → Bool) → ℕ → ℕ → Ending
 ending_from holds_at t zero =
     cond (holds_at t) (record { iteration = t; reason = 1 }) (record { iteration = t; reason = 2 })

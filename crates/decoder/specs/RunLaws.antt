@@ -6,6 +6,7 @@ use Rattle.std.proofs.Math.Path.{refl}
 use Rattle.std.proofs.Common.{sym, ap, ◌∙◌, ⊎_elim, eq-or-lt_of_le, le_of_suc-le-suc, arith}
 use Rattle.sweeps.specs.Iteration.{iteration}
 use Rattle.sweeps.specs.IterationLaws.{WorkspaceValid, valid-iterations, length-iterations}
+use Rattle.criteria.specs.declared.Criterion.TheVariants.{Never}
 use Rattle.criteria.specs.declared.Memory.{Memory}
 use Rattle.criteria.specs.declared.Progress.{Progress}
 use Rattle.criteria.specs.Memory.{nothing}
@@ -134,10 +135,15 @@ module _ {s : Settings} {mask : List ℕ} {w : List ℤ} {t : ℕ} {memory : Mem
       ending-found (holds_after s mask w) (suc t) s.limit (omega arith) high
       (λ j p q. h.none j p (le_of_suc-le-suc q)) (sym holds-is ∙ ok)
 
--- criterion 0 holds at no iteration
+-- a criterion that holds at no iteration
+pub ends-never : (s : Settings) (mask : List ℕ) (w : List ℤ) → criterion_of s ≡ Never → 1 ≤ s.limit
+    → end_of s mask w ≡ limit_of s
+ends-never s mask w never some = ending-last (holds_after s mask w) s.limit some (λ j p q. rw never)
+
+-- criterion 0 is one
 pub never_ends : (s : Settings) (mask : List ℕ) (w : List ℤ) → s.criterion ≡ 0 → 1 ≤ s.limit
     → end_of s mask w ≡ limit_of s
-never_ends s mask w never some = ending-last (holds_after s mask w) s.limit some (λ j p q. rw never)
+never_ends s mask w never some = ends-never s mask w (rw never) some
 
 -- ---- the slices of a run that keeps its outputs
 

@@ -105,8 +105,11 @@ struct Workspace<'a> {
     ghost valid: { WorkspaceValid (rule_of settings) settings.m work.now },
 }
 
+// Each loop reads by index beside the slice that it writes: as zips of all of them they took 1.2 to 2.6 times as long,
+// at m = 4, 7 and 10.
 impl Workspace<'_> {
     // The soft outputs, from column 0.
+    #[tactic(auto, using(crate::proofs::Loops::written_first))]
     fn soft_outputs(&self, mask: &[u8], soft: &mut [i16])
         requires { (2 ^ self.now.settings.m ≤ length mask.now) × (2 ^ self.now.settings.m ≤ length soft.old) }
         ensures { soft.new
@@ -117,8 +120,8 @@ impl Workspace<'_> {
         let m = self.settings.m;
         let n = polar::power_of_two(m);
         let right = (m as usize + 1) * n;
-        for i in 0..n {
-            soft[i] = soft_output(
+        for (i, place) in soft[..n].iter_mut().enumerate() {
+            *place = soft_output(
                 rule,
                 mask[i],
                 sweeps::get(work, 0, i),
@@ -128,6 +131,7 @@ impl Workspace<'_> {
     }
 
     // The coded soft outputs, from column m.
+    #[tactic(auto, using(crate::proofs::Loops::written_first))]
     fn coded_soft_outputs(&self, coded_soft: &mut [i16])
         requires { 2 ^ self.now.settings.m ≤ length coded_soft.old }
         ensures { coded_soft.new
@@ -139,8 +143,8 @@ impl Workspace<'_> {
         let n = polar::power_of_two(m);
         let left = m as usize * n;
         let right = (m as usize + 1 + m as usize) * n;
-        for i in 0..n {
-            coded_soft[i] = message::add_cut(
+        for (i, place) in coded_soft[..n].iter_mut().enumerate() {
+            *place = message::add_cut(
                 rule,
                 sweeps::get(work, left, i),
                 sweeps::get(work, right, i),
@@ -190,6 +194,7 @@ pub fn outputs(
 }
 
 // One iteration, its soft outputs, and its coded outputs.
+#[tactic(auto, using(crate::proofs::Loops::iterated_valid))]
 fn iterate(
     settings: Settings,
     mask: &[u8],
@@ -306,6 +311,7 @@ fn run(
 }
 
 // As many iterations.
+#[tactic(auto, using(crate::proofs::Loops::iterated_times_valid))]
 fn iterate_times(rule: MinSum, m: u32, count: u32, work: &mut [i16])
     requires { WorkspaceValid rule m work.old }
     ensures { work.new ≡ iterations rule m count work.old }
@@ -316,6 +322,7 @@ fn iterate_times(rule: MinSum, m: u32, count: u32, work: &mut [i16])
 }
 
 // Criterion 0 never holds, so only the last iteration's outputs are wanted.
+#[tactic(auto, using(crate::proofs::Loops::iterated_times_valid))]
 fn run_to_limit(
     settings: Settings,
     mask: &[u8],
@@ -370,12 +377,12 @@ pub fn decode(
     };
     settings::refusal(settings, mask, llr, lengths)?;
     let m = settings.m;
-    let criterion = settings.criterion;
     sweeps::begin(settings.ceiling as u16, m, mask, llr, work);
-    let ending = if criterion == 0 {
-        run_to_limit(settings, mask, soft, mark, coded_soft, coded_mark, work)
-    } else {
-        run(settings, mask, soft, mark, coded_soft, coded_mark, work)
+    let ending = match criterion_of(settings) {
+        Criterion::Never => {
+            run_to_limit(settings, mask, soft, mark, coded_soft, coded_mark, work)
+        }
+        _ => run(settings, mask, soft, mark, coded_soft, coded_mark, work),
     };
     Ok(ending)
 }

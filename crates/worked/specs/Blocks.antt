@@ -68,7 +68,7 @@ answer_of c =
     }
 
 -- ---- what was worked by hand: iteration, reason, soft outputs, marks, coded soft outputs, coded marks.
--- The element behind keeps its 99 or 9
+-- The element after them keeps its 99 or 9
 
 abbrev ends : ℕ → ℕ → List ℤ → List ℕ → List ℤ → List ℕ → Answer
 ends iteration reason soft mark coded_soft coded_mark = record {
@@ -209,7 +209,7 @@ unfolding add f set_row left_step right_step start after ending of_bits mul neg 
     is_above_zero
 worked = refl
 
--- ---- the workspace of P1 at its end: L(0, .), L(1, .), R(0, .), R(1, .), and the element behind
+-- ---- the workspace of P1 at its end: L(0, .), L(1, .), R(0, .), R(1, .), and the element after them
 
 abbrev first : Case
 first = block 1 16 10 1 0 (1 ∷ 0 ∷ []) (pos 5 ∷ minus 3 ∷ [])
