@@ -21,6 +21,13 @@ pub struct Radios {
     pub tallies: [Tally; RADIOS],
 }
 
+// A radio and its tally.
+#[derive(Clone, Copy, Default)]
+pub struct Entry {
+    pub radio: u32,
+    pub tally: Tally,
+}
+
 // Whether there is such a radio; 16 where there isn't.
 pub fn is_radio(radio: u32) -> bool
     ensures { result ≡ ltb radio radio_count }

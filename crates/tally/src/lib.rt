@@ -8,14 +8,14 @@ ghost use Rattle.calls.specs.Numbers.{number_of};
 ghost use Rattle.decoder.specs.Decoder.{result_of};
 ghost use Rattle.settings.specs.Slices.{slices};
 ghost use Rattle.tally.specs.Tally.{consistent, tally_number, counted, TalliedDecode};
-ghost use Rattle.tally.specs.Runs.{none, plus};
+ghost use Rattle.tally.specs.Runs.{none};
 ghost use Rattle.tally.specs.Private.{single};
 ghost use Rattle.decoder.specs.ResultLaws.{DecoderAnswer};
-ghost use Rattle.tally.specs.TallyLaws.{Usable};
 
 use calls::Refusal;
 use decoder::{Ending, Reason};
 use settings::Settings;
+use std::ops::Add;
 
 // With so many blocks a tally is full and takes no more; its own test allows so many iterations for each ending.
 pub const MOST_BLOCKS: u32 = 1000000;
@@ -37,6 +37,29 @@ pub struct Tally {
 pub struct Tallied<T> {
     pub tally: T,
     pub outcome: Result<Ending, Refusal>,
+}
+
+// Number by number, of two tallies that no call refuses.
+impl Add for Tally {
+    ghost use Rattle.std.specs.Prelude.{◌≡◌};
+    ghost use Rattle.tally.specs.Runs.{plus};
+    ghost use Rattle.tally.specs.TallyLaws.{Usable};
+
+    type Output = Tally;
+
+    ghost can_add = { λ t u. Usable t × Usable u };
+
+    ghost add_gives = { λ t u sum. sum ≡ plus t u };
+
+    fn add(self, other: Tally) -> Tally {
+        Tally {
+            blocks: self.blocks + other.blocks,
+            by_criterion: self.by_criterion + other.by_criterion,
+            by_limit: self.by_limit + other.by_limit,
+            refusals: self.refusals + other.refusals,
+            iterations: self.iterations + other.iterations,
+        }
+    }
 }
 
 impl Tally {
@@ -98,30 +121,16 @@ impl Tally {
         }
     }
 
-    // Two tallies added, number by number.
-    fn plus(self, more: Tally) -> Tally
-        requires { Usable self × Usable more }
-        ensures { result ≡ plus self more }
-    {
-        Tally {
-            blocks: self.blocks + more.blocks,
-            by_criterion: self.by_criterion + more.by_criterion,
-            by_limit: self.by_limit + more.by_limit,
-            refusals: self.refusals + more.refusals,
-            iterations: self.iterations + more.iterations,
-        }
-    }
-
     // The tally with one answer of the decoder counted.
     fn counted(self, outcome: Result<Ending, Refusal>) -> Tally
         requires { (tally_number self ≡ 0) × DecoderAnswer (result_of outcome) }
         ensures { result ≡ counted self (result_of outcome) }
     {
-        self.plus(Tally::single(outcome))
+        self + Tally::single(outcome)
     }
 
-    // A decode whose answer is counted. 15 is tested before everything; the tally then comes back
-    // unchanged, and nothing is written.
+    // A decode whose answer is counted. 15 is tested before everything; the tally then comes back unchanged, and
+    // nothing is written.
     pub fn decode(
         self,
         settings: Settings,
