@@ -17,7 +17,7 @@ use Rattle.radio_list.specs.RadioList.{
   meaning,
 }
 
--- the lines behind the first
+-- the lines after the first
 abbrev lines : String → Listed
 lines s = meaning (list_names ++ bytes s)
 
@@ -62,7 +62,7 @@ radio-numbers : map number ("64 0 0 0 0 0\n" ∷ "999999999 0 0 0 0 0\n" ∷ [])
 unfolding meaning read_lines checked_line radio_line item natural digits separator spaces literal
 radio-numbers = refl
 
--- a radio twice, one below the one before, and one behind radio 63
+-- a radio twice, one below the one before, and one after radio 63
 order : map number
     ("5 0 0 0 0 0\n5 0 0 0 0 0\n" ∷ "5 0 0 0 0 0\n4 0 0 0 0 0\n" ∷ "63 0 0 0 0 0\n0 0 0 0 0 0\n" ∷ [])
     ≡ 14 ∷ 14 ∷ 14 ∷ []
@@ -83,7 +83,7 @@ values : map number
 unfolding meaning read_lines checked_line radio_line item natural digits separator spaces literal
 values = refl
 
--- a tab, a space before the first number and behind the last, no end of the line, an empty line
+-- a tab, a space before the first number and after the last, no end of the line, an empty line
 separators : map number
     ("0\t0 0 0 0 0\n" ∷ " 0 0 0 0 0 0\n" ∷ "0 0 0 0 0 0 \n" ∷ "0 0 0 0 0 0" ∷ "0 0 0 0 0 0\n\n" ∷ [])
     ≡ 14 ∷ 14 ∷ 14 ∷ 14 ∷ 14 ∷ []

@@ -10,7 +10,7 @@ use Rattle.radios.specs.Runs.{no_blocks}
 use Rattle.scan.specs.Reading.{Reading, found, bind, if_found}
 use Rattle.scan.specs.Lines.{item, literal}
 use Rattle.radio_list.specs.declared.RadioList.{RadioList}
-pub use Rattle.radio_list.specs.declared.Entry.{Entry}
+pub use Rattle.radios.specs.declared.Entry.{Entry}
 
 -- the most bytes of an accepted list
 abbrev pub longest_list : ℕ
@@ -49,7 +49,7 @@ abbrev pub entry_number : ℕ → Entry → ℕ
 entry_number least e =
     first_refusal (radio_number e.radio) (check (leb least e.radio) 14 (listed_number e.tally))
 
--- a line that passes its tests and the text behind it, or the number that refuses it
+-- a line that passes its tests and the text after it, or the number that refuses it
 pub data Checked : Type 0 where
   passed : Entry → List ℕ → Checked
   failed : ℕ → Checked

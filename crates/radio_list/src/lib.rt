@@ -11,7 +11,7 @@ ghost use Rattle.radio_list.specs.RadioList.{radio_line, checked_line, lines_fro
 ghost use Rattle.radio_list.specs.Private.{checked_of, listed_of};
 
 use calls::Refusal;
-use radios::Radios;
+use radios::{Entry, Radios};
 use tally::{MOST_BLOCKS, Tally};
 
 // The most bytes of an accepted list.
@@ -22,13 +22,6 @@ pub const LONGEST_LIST: usize = 32768;
 pub struct RadioList {
     pub radios: Radios,
     pub answer: Result<(), Refusal>,
-}
-
-// What the line of a radio says.
-#[derive(Clone, Copy)]
-struct Entry {
-    radio: u32,
-    tally: Tally,
 }
 
 // The six numbers of a line.
@@ -72,6 +65,7 @@ fn check_line(text: &[u8], least: u32) -> Result<(Entry, &[u8]), Refusal>
 }
 
 // The lines after the first. As radios rise from line to line, 64 lines at most pass.
+#[tactic(auto, using(crate::proofs::Rules::lines))]
 fn read_lines(text: &[u8]) -> Result<Radios, Refusal>
     ensures { lines_from 0 no_blocks text.now ≡ listed_of result }
 {
@@ -88,6 +82,7 @@ fn read_lines(text: &[u8]) -> Result<Radios, Refusal>
 }
 
 // The tallies that a text lists.
+#[tactic(auto, unfolding(crate::specs::RadioList::meaning))]
 fn listed(text: &[u8]) -> Result<Radios, Refusal>
     ensures { meaning text.now ≡ listed_of result }
 {

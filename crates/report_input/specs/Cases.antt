@@ -87,7 +87,7 @@ pub order : map (λ text. number_in (meaning text)) (
 unfolding digits natural number spaces separator line literal head read_position read_positions meaning_in meaning
 order = refl
 
--- no number of positions but N, in order, and nothing behind
+-- no number of positions but N, in order, and nothing after them
 pub malformed : map (λ positions. number_in (meaning (of usual positions))) (
     bytes ""
     ∷ bytes "0 1 5\n"

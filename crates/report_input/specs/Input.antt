@@ -181,7 +181,7 @@ abbrev pub answer_of : Result Settings Refusal → ReadAnswer
 answer_of (Ok s) = accepted s
 answer_of (Err r) = rejected (refusal_number r)
 
--- a block in the first elements, the old contents behind it
+-- a block in the first elements, the old contents after it
 abbrev pub block_over : Block → Block → Block
 block_over b old = block_of (written_over b.mask old.mask) (written_over b.llr old.llr)
 

@@ -146,6 +146,14 @@ pub read-positions-end : (n : ℕ) (mask : List ℕ) (llr : List ℤ) (s : List 
 unfolding read_positions
 read-positions-end n mask llr s = let left : n - n ≡ 0 = omega arith in rw (left, append-nil mask, append-nil llr)
 
+pub read-positions-whole : (n i : ℕ) (mask : List ℕ) (llr : List ℤ) (s : List ℕ) → n ≤ i → length mask ≤ i
+    → length llr ≤ i
+    → prefixed (take i mask) (take i llr) (read_positions (n - i) i s) ≡ found (block_of mask llr) s
+unfolding read_positions
+read-positions-whole n i mask llr s h mask-long llr-long =
+    let left : n - i ≡ 0 = omega arith in
+    rw (left, take_all i mask mask-long, take_all i llr llr-long, append-nil mask, append-nil llr)
+
 -- ---- n lines give n mask values and n LLRs
 
 module _ {A : Type 0} where
@@ -287,6 +295,16 @@ module _ (room : Room) where
       → block_number s (held_in room b) ≡ number_in (tested room s R)
   lines-number s R b end t e h =
       rw (e, drop_of_length-le t h) (sym (number-in (block_number s (held_in room b)) s b))
+
+  -- nothing follows the last line: as much of the block as there is room for decides
+  pub lines_ended : (s : Settings) (R : Reading Block) (n : ℕ) (mask : List ℕ) (llr : List ℤ)
+      → R ≡ found (block_of mask llr) [] → length mask ≤ n → length llr ≤ n
+      → block_number s (block_of (take (min n room.mask) mask) (take (min n room.llr) llr))
+      ≡ number_in (tested room s R)
+  lines_ended s R n mask llr e mask-long llr-long =
+      rw (e, take-smaller n room.mask mask, take-smaller n room.llr llr)
+      (rw (take_all n mask mask-long, take_all n llr llr-long)
+      (sym (number-in (block_number s (held_in room (block_of mask llr))) s (block_of mask llr))))
 
   pub accepted-block : (s : Settings) (R : Reading Block) → 0 ≡ number_in (tested room s R) → Whole room s R
   accepted-block s malformed e = absurd (omega arith)

@@ -52,6 +52,16 @@ pub stored-positions-end : (n : ℕ) (s : List ℕ) → positions_stored (n - n)
 unfolding positions_stored
 stored-positions-end n s = let left : n - n ≡ 0 = omega arith in rw left
 
+-- so nothing more is stored
+module _ (n i : ℕ) (s mask : List ℕ) (llr : List ℤ) where
+  pub stored-none-stop : i < n → read_position i s ≡ malformed
+      → stored_from i (positions_stored (n - i) i s) (block_of mask llr) ≡ block_of mask llr
+  stored-none-stop h e = rw (stored-positions-stop n i s h e)
+
+  pub stored-none-end : n ≤ i → stored_from i (positions_stored (n - i) i s) (block_of mask llr) ≡ block_of mask llr
+  unfolding positions_stored
+  stored-none-end h = let left : n - i ≡ 0 = omega arith in rw left
+
 -- at most n of n
 stored-positions-short : (n p : ℕ) (s : List ℕ) →
     (length (positions_stored n p s).mask ≤ n) × (length (positions_stored n p s).llr ≤ n)
@@ -73,6 +83,11 @@ stored-positions-over n s old mask-long llr-long =
     let b = positions_stored n 0 s in
     let short = stored-positions-short n 0 s in
     ap₂ block_of (written-sets b.mask old.mask (omega arith)) (written-sets b.llr old.llr (omega arith))
+
+pub stored-over-lent : (n : ℕ) (s mask : List ℕ) (llr : List ℤ) → n ≤ length mask → n ≤ length llr
+    → stored_from 0 (positions_stored n 0 s) (block_of mask llr)
+    ≡ block_over (positions_stored n 0 s) (block_of mask llr)
+stored-over-lent n s mask llr mask-long llr-long = stored-positions-over n s (block_of mask llr) mask-long llr-long
 
 -- lines that were read are stored whole
 pub stored-positions : (n p : ℕ) (s : List ℕ) (b : Block) (u : List ℕ) → read_positions n p s ≡ found b u

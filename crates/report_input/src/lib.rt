@@ -9,10 +9,11 @@ ghost use Rattle.calls.specs.Numbers.{number_of};
 ghost use Rattle.scan.specs.Answers.{read_to, reading_of};
 ghost use Rattle.scan.specs.Reading.{found};
 ghost use Rattle.report_input.specs.Input.{unsigned, mask_value, llr_value, settings_of, head};
-ghost use Rattle.report_input.specs.Input.{read_position, read_positions, block_of};
+ghost use Rattle.report_input.specs.Input.{read_position, read_positions, block_of, block_over};
 ghost use Rattle.report_input.specs.Input.{block_number, number_in, tested, sized, meaning_in};
 ghost use Rattle.report_input.specs.Input.{room_of, InputRead};
 ghost use Rattle.report_input.specs.InputLaws.{Roomy};
+ghost use Rattle.report_input.specs.StoredPositions.{positions_stored};
 
 use calls::{LARGEST_M, MOST_POSITIONS, MOST_WORKSPACE, Refusal};
 use settings::{Lengths, Settings};
@@ -85,7 +86,8 @@ fn read_head(text: &[u8]) -> Option<(Settings, &[u8])>
     ensures { head text.now ≡ reading_of result }
 {
     let text = scan::literal(text, b"m ceiling scale limit criterion operand\n")?;
-    let (values, text) = scan::line(text)?;
+    let mut values = [0; 6];
+    let text = scan::line(text, &mut values)?;
     let text = scan::literal(text, b"position frozen llr\n")?;
     Some((settings_of(values), text))
 }
@@ -95,7 +97,9 @@ fn read_head(text: &[u8]) -> Option<(Settings, &[u8])>
 fn read_position(text: &[u8], position: usize) -> Option<(PositionInput, &[u8])>
     ensures { read_position position text.now ≡ reading_of result }
 {
-    let ([written, frozen, llr], rest) = scan::line::<3>(text)?;
+    let mut values = [0; 3];
+    let rest = scan::line(text, &mut values)?;
+    let [written, frozen, llr] = values;
     if unsigned(written) as usize != position {
         return None;
     }
@@ -106,15 +110,19 @@ fn read_position(text: &[u8], position: usize) -> Option<(PositionInput, &[u8])>
     Some((read, rest))
 }
 
-// The lines of as many positions as two slices have elements; those read before a fault are stored too.
+// The lines of as many positions as two slices have elements; those read before a fault are stored too. Under a `zip`
+// nothing would be known of what is written, so the second slice goes by its index.
+#[tactic(auto, using(crate::proofs::Rules::positions))]
 fn read_positions<'a>(text: &'a [u8], mask: &mut [u8], llr: &mut [i16]) -> Option<&'a [u8]>
     requires { length llr.old ≡ length mask.old }
-    ensures { read_positions (length mask.old) 0 text.now ≡ read_to (block_of mask.new llr.new) result }
+    ensures text_value { read_positions (length mask.old) 0 text.now ≡ read_to (block_of mask.new llr.new) result }
+    ensures positions_after { block_of mask.new llr.new
+        ≡ block_over (positions_stored (length mask.old) 0 text.now) (block_of mask.old llr.old) }
 {
     let mut rest = text;
-    for i in 0..mask.len() {
+    for (i, frozen) in mask.iter_mut().enumerate() {
         let (read, after) = read_position(rest, i)?;
-        mask[i] = read.frozen;
+        *frozen = read.frozen;
         llr[i] = read.llr;
         rest = after;
     }
@@ -189,6 +197,7 @@ fn read_block(
 }
 
 // Settings, mask and LLRs of a text.
+#[tactic(auto, using(crate::proofs::Rules::meanings))]
 pub fn read(text: &[u8], mask: &mut [u8], llr: &mut [i16]) -> Result<Settings, Refusal>
     ensures { InputRead (meaning_in (room_of (block_of mask.old llr.old)) text.now)
         (block_of mask.old llr.old) (block_of mask.new llr.new) result }

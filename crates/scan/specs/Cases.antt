@@ -35,7 +35,7 @@ several-spaces : read 3 "1  2   3\n" ≡ values (pos 1 ∷ pos 2 ∷ pos 3 ∷ [
 unfolding line number natural digits separator spaces
 several-spaces = refl
 
--- the text goes on behind byte 10
+-- the text goes on after byte 10
 next-line : read 2 "1 2\n3 4\n" ≡ values (pos 1 ∷ pos 2 ∷ []) "3 4\n"
 unfolding line number natural digits separator spaces
 next-line = refl
@@ -90,7 +90,7 @@ too_many : read 2 "1 2 3\n" ≡ malformed
 unfolding line number natural digits separator spaces
 too_many = refl
 
--- a line does not go on behind byte 10
+-- a line does not go on after byte 10
 too_few : read 2 "1\n2\n" ≡ malformed
 unfolding line number natural digits separator spaces
 too_few = refl
@@ -108,7 +108,7 @@ stored-whole : stored 3 "1 2 3\n" ≡ pos 1 ∷ pos 2 ∷ pos 3 ∷ []
 unfolding values_stored number natural digits separator spaces
 stored-whole = refl
 
--- the second value is no number, or has no space behind it
+-- the second value is no number, or has no space after it
 stored-to-the-fault : stored 3 "1 x 3\n" ≡ pos 1 ∷ []
 unfolding values_stored number natural digits separator spaces
 stored-to-the-fault = refl

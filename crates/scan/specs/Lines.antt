@@ -4,12 +4,12 @@ use Rattle.std.specs.Prelude.{ℕ, zero, suc, cond, List, [], ◌∷◌, eqb, �
 use Rattle.scan.specs.Reading.{Reading, found, malformed, bind, first, rest}
 use Rattle.scan.specs.Numbers.{natural, number}
 
--- the text behind its leading spaces, bytes 32
+-- the text after its leading spaces, bytes 32
 unfoldable pub spaces : List ℕ → List ℕ
 spaces [] = []
 spaces (b ∷ s) = cond (eqb b 32) (spaces s) (b ∷ s)
 
--- what stands behind a value with n more to come in its line: byte 10 behind the last, one or more spaces behind any
+-- what stands after a value with n more to come in its line: byte 10 after the last, one or more spaces after any
 -- other
 unfoldable pub separator : ℕ → List ℕ → Reading Unit
 separator zero s = cond (eqb (first s) 10) (found tt (rest s)) malformed
@@ -23,7 +23,7 @@ line (suc n) s =
     bind (separator n s) (λ _ s.
     bind (line n s) (λ zs s. found (z ∷ zs) s)))
 
--- request 2026-05, a count in a line of counts: 1 to 9 digits, and what stands behind them with n more to come
+-- request 2026-05, a count in a line of counts: 1 to 9 digits, and what stands after them with n more to come
 unfoldable pub item : ℕ → List ℕ → Reading ℕ
 item n s =
     bind (natural 9 s) (λ v s.

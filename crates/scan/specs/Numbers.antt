@@ -6,7 +6,7 @@ use Rattle.scan.specs.Reading.{Reading, found, malformed, bind, first, rest}
 abbrev pub is_digit : ℕ → Bool
 is_digit b = leb 48 b && leb b 57
 
--- at most k digits more, behind those that made v
+-- at most k digits more, after those that made v
 unfoldable pub digits : ℕ → ℕ → List ℕ → Reading ℕ
 digits zero v s = found v s
 digits (suc k) v s = cond (is_digit (first s)) (digits k (10 * v + (first s - 48)) (rest s)) (found v s)

@@ -6,7 +6,7 @@ use Rattle.scan.specs.Reading.{found, malformed, bind, first, rest}
 use Rattle.scan.specs.Numbers.{is_digit, digits, natural, number}
 use Rattle.scan.specs.Lines.{spaces, separator, literal}
 
--- ---- the byte at a position, and the text behind it
+-- ---- the byte at a position, and the text after it
 
 pub first-drop : (i : ℕ) (t : List ℕ) → first (drop i t) ≡ get_or t i 0
 first-drop zero [] = refl
@@ -23,7 +23,7 @@ rest-drop i t = rw add-one (by-suc i t)
     by-suc (suc i) [] = refl
     by-suc (suc i) (b ∷ t) = by-suc i t
 
--- behind the end the first byte counts as 0, so any other byte has its place before the end
+-- after the end the first byte counts as 0, so any other byte has its place before the end
 pub inside : (i : ℕ) (t : List ℕ) → 0 < first (drop i t) → i < length t
 inside zero [] h = absurd (omega arith)
 inside (suc i) [] h = absurd (omega arith)

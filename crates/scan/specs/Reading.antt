@@ -1,7 +1,7 @@
 -- What reading the start of a text finds. Definitions only.
 use Rattle.std.specs.Prelude.{ℕ, List, [], ◌∷◌}
 
--- something, and the text behind it; or nothing that the rules allow
+-- something, and the text after it; or nothing that the rules allow
 pub data Reading (A : Type 0) : Type 0 where
   found : A → List ℕ → Reading A
   malformed : Reading A
@@ -17,7 +17,7 @@ module _ {A B : Type 0} where
   if_found (found a s) none next = next a s
   if_found malformed none next = none
 
--- the first byte of a text, 0 where it is empty (no rule lets a byte 0 pass), and the text behind it
+-- the first byte of a text, 0 where it is empty (no rule lets a byte 0 pass), and the text after it
 abbrev pub first : List ℕ → ℕ
 first [] = 0
 first (b ∷ s) = b

@@ -1,6 +1,6 @@
 -- The values of a line up to its first fault.
-use Rattle.std.specs.Prelude.{ℕ, zero, suc, ◌-◌, ◌<◌, ◌≤◌, ◌≡◌, refl, List, [], ◌∷◌, ℤ, length, drop}
-use Rattle.std.proofs.Common.{◌∙◌, arith, sub-one}
+use Rattle.std.specs.Prelude.{ℕ, zero, suc, ◌+◌, ◌-◌, ◌<◌, ◌≤◌, ◌≡◌, refl, List, [], ◌∷◌, ℤ, length, set, drop}
+use Rattle.std.proofs.Common.{◌∙◌, add-one, arith, sub-one}
 use Rattle.std.proofs.lemmas.List.Edits.{sets}
 use Rattle.calls.specs.LentMemory.{written_over}
 use Rattle.calls.specs.LentMemoryLaws.{written-sets, written_behind}
@@ -10,7 +10,7 @@ use Rattle.scan.specs.Lines.{separator, line}
 use Rattle.scan.specs.ScanLaws.{bind-found, behind}
 
 -- the values of a line of n that are stored: all of them, or those before the first fault. A value is stored once what
--- stands behind it has been read too
+-- comes after it has been read too
 unfoldable pub values_stored : ℕ → List ℕ → List ℤ
 values_stored zero s = []
 values_stored (suc n) s =
@@ -61,7 +61,18 @@ pub stored-over : (n : ℕ) (s : List ℕ) (old : List ℤ) → n ≤ length old
     → sets old 0 (values_stored n s) ≡ written_over (values_stored n s) old
 stored-over n s old h = written-sets (values_stored n s) old (omega (arith, stored-length n s))
 
--- behind the first n elements nothing is written
+-- where the values stored so far, with those to come after them, are those of the whole line: one value more is stored
+pub stored-one-more : (n i : ℕ) (t s : List ℕ) (old values : List ℤ) (z : ℤ) (u w : List ℕ) → i < n
+    → sets values i (values_stored (n - i) s) ≡ sets old 0 (values_stored n t)
+    → number s ≡ found z u → separator (n - 1 - i) u ≡ found tt w
+    → sets (set values i z) (i + 1) (values_stored (n - (i + 1)) w) ≡ sets old 0 (values_stored n t)
+stored-one-more n i t s old values z u w inside so-far e g =
+    let fewer : n - i - 1 ≡ n - 1 - i = omega arith in
+    let left : n - i - 1 ≡ n - (i + 1) = omega arith in
+    let next = stored_next (n - i) s (omega arith) z u e w (rw fewer g) in
+    rw (add-one i) (rw (next, left, add-one i) at so-far)
+
+-- after the first n elements nothing is written
 pub stored-behind : (n : ℕ) (s : List ℕ) (old : List ℤ)
     → drop n (written_over (values_stored n s) old) ≡ drop n old
 stored-behind n s old = written_behind (values_stored n s) old n (stored-length n s)

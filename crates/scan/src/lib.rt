@@ -3,12 +3,14 @@
 // text after it.
 #![tactic(auto)]
 
-ghost use Rattle.std.specs.Prelude.{◌≡◌, ◌≤◌, pos};
+ghost use Rattle.std.specs.Prelude.{◌≡◌, ◌≤◌, length, pos};
+ghost use Rattle.calls.specs.LentMemory.{written_over};
 ghost use Rattle.calls.specs.Signs.{flipped};
 ghost use Rattle.scan.specs.Reading.{found, bind};
 ghost use Rattle.scan.specs.Numbers.{digits, natural, number};
 ghost use Rattle.scan.specs.Lines.{spaces, separator, line, item, literal};
 ghost use Rattle.scan.specs.Answers.{read_to, reading_of};
+ghost use Rattle.scan.specs.Stored.{values_stored};
 
 // The most digits of a value, and of a count.
 const VALUE_DIGITS: u32 = 6;
@@ -16,6 +18,7 @@ const VALUE_DIGITS: u32 = 6;
 const COUNT_DIGITS: u32 = 9;
 
 // The number that the digits at the front write, of which it reads `most` at most.
+#[tactic(auto, using(crate::proofs::Rules::number))]
 fn digits(text: &[u8], most: u32) -> (u32, &[u8])
     requires { most ≤ 9 }
     ensures { digits most 0 text.now ≡ found result.0 result.1.now }
@@ -45,6 +48,7 @@ fn natural(text: &[u8], most: u32) -> Option<(u32, &[u8])>
 }
 
 // The digits of a value, with the sign that stood before them.
+#[tactic(auto, using(crate::proofs::Rules::signed))]
 fn signed_natural(text: &[u8], negative: bool) -> Option<(i32, &[u8])>
     ensures { bind (natural 6 text.now) (λ n s. found (flipped negative (pos n)) s) ≡ reading_of result }
 {
@@ -88,18 +92,22 @@ fn separator(text: &[u8], more: usize) -> Option<&[u8]>
     }
 }
 
-// A line of N values.
-pub fn line<const N: usize>(text: &[u8]) -> Option<([i32; N], &[u8])>
-    ensures { line N text.now ≡ reading_of result }
+// A line of values, one for each element of a slice; those read before a fault are stored too. Inlined, so that the
+// loop is as long as the array that its caller lends.
+#[tactic(auto, using(crate::proofs::Rules::lines))]
+#[inline(always)]
+pub fn line<'a>(text: &'a [u8], values: &mut [i32]) -> Option<&'a [u8]>
+    ensures text_value { line (length values.old) text.now ≡ read_to values.new result }
+    ensures values_after { values.new ≡ written_over (values_stored (length values.old) text.now) values.old }
 {
-    let mut values = [0; N];
+    let count = values.len();
     let mut rest = text;
     for (i, value) in values.iter_mut().enumerate() {
         let (read, after) = number(rest)?;
-        rest = separator(after, N - 1 - i)?;
+        rest = separator(after, count - 1 - i)?;
         *value = read;
     }
-    Some((values, rest))
+    Some(rest)
 }
 
 // A count of a line of counts with `more` to come after it.
@@ -112,6 +120,7 @@ pub fn read_item(text: &[u8], more: usize) -> Option<(u32, &[u8])>
 }
 
 // A fixed text, byte for byte.
+#[tactic(auto, using(crate::proofs::Rules::fixed))]
 pub fn literal<'a>(text: &'a [u8], name: &[u8]) -> Option<&'a [u8]>
     ensures { literal name.now text.now ≡ read_to tt result }
 {

@@ -18,5 +18,5 @@ returns c =
     let size : length (take n c.args.mask.now) ≡ 2 ^ m = grind (arith, common_steps) in
     let long : length c.read_positions.new.mask ≡ n = grind (arith, common_steps) in
     let llr-long : length c.read_positions.new.llr ≡ n = grind (arith, common_steps) in
-    let again = rw size at c.read_positions.ensures in
+    let again = rw size at c.read_positions.ensures.text_value in
     rw passed (read-again _ _ _ _ _ c.in_ok-refusal.ensures.value again (rw (long, llr-long)))

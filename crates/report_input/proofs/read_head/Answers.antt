@@ -5,4 +5,4 @@ use Rattle.report_input.proofs.read_head.Goals as goal
 pub returns : goal.returns
 unfolding head
 returns c =
-    rw (c.in_ok-text.ensures, c.in_ok-values.ensures, c.in_ok-text-2.ensures, c.settings_of.ensures)
+    rw (c.in_ok-text.ensures, c.in_ok-text-2.ensures.text_value, c.in_ok-text-3.ensures, c.settings_of.ensures)
