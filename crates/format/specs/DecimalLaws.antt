@@ -7,7 +7,7 @@ use Rattle.std.proofs.Math.Nat.{pow-succ'}
 use Rattle.std.specs.Int.Signed.{lt_z}
 use Rattle.format.specs.Decimal.{digits, decimal, shown, line}
 
--- a text and one byte behind it
+-- a text and one byte after it
 pub length_last : (x : List ℕ) (b : ℕ) → length (x ++ (b ∷ [])) ≡ length x + 1
 length_last x b = length-append x (b ∷ [])
 
@@ -45,7 +45,7 @@ pub decimal-small : (n : ℕ) → n < 10 → decimal n ≡ (48 + n) ∷ []
 unfolding decimal digits
 decimal-small n h = rw (lt-ltb n 10 h)
 
--- any other is its tenth in decimal, and the last digit behind it
+-- any other is its tenth in decimal, and the last digit after it
 pub decimal-large : (n : ℕ) → 10 ≤ n → decimal n ≡ decimal (n / 10) ++ ((48 + n % 10) ∷ [])
 unfolding decimal digits
 decimal-large n h = rw (le-ltb n 10 h, digits-enough (n / 10) n (suc (n / 10)) (omega arith) (omega arith))
@@ -85,12 +85,12 @@ unfolding shown
 shown-length (pos n) h = let l = decimal-length 3 n (omega arith) in omega arith
 shown-length (negsuc n) h = let l = decimal-length 3 (suc n) (omega arith) in omega arith
 
--- the byte behind a value, by the values that follow: a space, or byte 10 where there are none
+-- the byte after a value, by the values that follow: a space, or byte 10 where there are none
 abbrev pub behind : List ℤ → ℕ
 behind [] = 10
 behind (z ∷ zs) = 32
 
--- a line is its first value, the byte behind it, and the line of the rest
+-- a line is its first value, the byte after it, and the line of the rest
 pub line-cons : (z : ℤ) (zs : List ℤ) → line (z ∷ zs) ≡ shown z ++ (behind zs ∷ []) ++ line zs
 unfolding line
 line-cons z [] = sym (append-nil (shown z ++ (10 ∷ [])))
@@ -104,7 +104,7 @@ behind-drop zs j = split (ltb j (length zs)) refl
     split true e = sym (ap behind (drop-cons zs j (pos 0) (ltb-true j (length zs) e)))
     split false e = sym (ap behind (drop_of_length-le zs (ltb-false j (length zs) e)))
 
--- what stands from the i-th value of a line on: the value, the byte b behind it, and the rest
+-- what stands from the i-th value of a line on: the value, the byte b after it, and the rest
 pub line-next : (zs : List ℤ) (i b : ℕ) → i < length zs → b ≡ cond (ltb (i + 1) (length zs)) 32 10 →
     line (drop i zs) ≡ shown (get_or zs i (pos 0)) ++ (b ∷ []) ++ line (drop (i + 1) zs)
 unfolding line
@@ -117,7 +117,7 @@ line-next zs i b h e =
     cons z [] = sym (append-nil (shown z ++ (10 ∷ [])))
     cons z (y ∷ zs) = sym (append_assoc (shown z) (32 ∷ []) (line (y ∷ zs)))
 
--- behind the last value nothing is left
+-- after the last value nothing is left
 pub line-ends : (zs : List ℤ) (i : ℕ) → length zs ≤ i → line (drop i zs) ≡ []
 unfolding line
 line-ends zs i h = rw (drop_of_length-le zs h)

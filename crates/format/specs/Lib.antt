@@ -1,7 +1,9 @@
 pub mod Decimal
 pub mod Texts
 pub mod Wrote
+pub mod Writing
 pub mod DecimalLaws
 pub mod TextLaws
 pub mod WroteLaws
+pub mod WritingLaws
 pub mod Cases

@@ -15,9 +15,9 @@ pub position-lines-next : (values : ℕ → List ℤ) (n i : ℕ) → i < n
 unfolding position_lines
 position-lines-next values n i h = let left : n - i ≡ suc (n - suc i) = omega arith in rw (left, add-one i)
 
-pub position-lines-end : (values : ℕ → List ℤ) (n : ℕ) → position_lines values (n - n) n ≡ []
+pub position-lines-end : (values : ℕ → List ℤ) (n i : ℕ) → n ≤ i → position_lines values (n - i) i ≡ []
 unfolding position_lines
-position-lines-end values n = let left : n - n ≡ 0 = omega arith in rw left
+position-lines-end values n i h = let left : n - i ≡ 0 = omega arith in rw left
 
 -- only the values of the positions count
 pub position-lines-same : (values values' : ℕ → List ℤ) (n p : ℕ)

@@ -1,5 +1,5 @@
 -- What a function that writes a text leaves: the bytes from a position on, the old contents elsewhere, and the position
--- behind them. Definitions only.
+-- after them. Definitions only.
 use Rattle.std.specs.Prelude.{ℕ, ◌+◌, ◌≤◌, ◌≡◌, List, length, take}
 use Rattle.std.proofs.lemmas.List.Edits.{sets}
 

@@ -1,11 +1,11 @@
--- Laws of writing: one text behind another, and a text that is written piece by piece.
+-- Laws of writing: one text after another, and a text that is written piece by piece.
 use Rattle.std.specs.Prelude.{ℕ, suc, ◌+◌, ◌≤◌, ◌≡◌, refl, List, [], ◌∷◌, ◌++◌, length, set, take, drop}
 use Rattle.std.proofs.Common.{sym, ap, ◌∙◌, arith, add-zero, length-append, length-take-le}
 use Rattle.std.proofs.lemmas.List.Edits.{sets, sets-eq}
 use Rattle.std.proofs.Math.Seq.{length-sets, take-append_seam}
 use Rattle.format.specs.Wrote.{Wrote, Within}
 
--- to store two texts, the second from the position j behind the first on, is to store them as one
+-- to store two texts, the second from the position j after the first on, is to store them as one
 pub sets-append : (l : List ℕ) (i j : ℕ) (x y : List ℕ) → j ≡ i + length x → sets l i (x ++ y) ≡ sets (sets l i x) j y
 sets-append l i j [] y e = let same : j ≡ i = omega arith in rw same
 sets-append l i j (b ∷ x) y e = sets-append (set l i b) (suc i) j x y (omega arith)
@@ -15,7 +15,7 @@ module _ {old new : List ℕ} {at next : ℕ} {x : List ℕ} where
   pub wrote-length : Wrote old at x new next → length new ≡ length old
   wrote-length w = ap length w.new_is ∙ length-sets old at x
 
-  -- a second text behind the first
+  -- a second text after the first
   pub wrote_then : {last : List ℕ} {end : ℕ} {y : List ℕ} → Wrote old at x new next → Wrote new next y last end
       → Wrote old at (x ++ y) last end
   wrote_then {y = y} w v = record {
@@ -23,7 +23,7 @@ module _ {old new : List ℕ} {at next : ℕ} {x : List ℕ} where
     next-is = omega (arith, w.next-is, v.next-is, length-append x y);
   }
 
-  -- where both have room, the second has room behind the first
+  -- where both have room, the second has room after the first
   pub wrote-room : (y : List ℕ) → Wrote old at x new next → at + length (x ++ y) ≤ length old
       → next + length y ≤ length new
   wrote-room y w h = omega (arith, w.next-is, wrote-length w, length-append x y)

@@ -1,7 +1,7 @@
 -- The lines of radios one by one, of a whole list.
 use Rattle.std.proofs.Common.{ℕ, ◌+◌, ◌<◌, ◌≡◌, ◌++◌, List, length, get_or, drop, le_refl}
 use Rattle.std.proofs.Math.Seq.{take-length}
-use Rattle.radio_summary.specs.declared.Entry.{Entry}
+use Rattle.radios.specs.declared.Entry.{Entry}
 use Rattle.radio_summary.specs.Summary.{line_of, lines_of, nobody}
 use Rattle.radio_summary.specs.SummaryLaws.{lines_next}
 

@@ -1,12 +1,17 @@
 -- The laws that the check tries at the goals of the functions that write pieces of a line, of `lines`, and of `write`.
-use Rattle.std.proofs.Common.{length-append}
-use Rattle.std.proofs.lemmas.Bool.Decides.{nat_tests}
-use Rattle.format.specs.WroteLaws.{wrote_then, wrote-room, writing-next, writing-ends, writing-room}
-use Rattle.radio_summary.specs.SummaryLaws.{all-at, lines_end, ordered-with-blocks, summary-length}
+use Rattle.std.proofs.Common.{ℕ, ◌+◌, ◌≡◌, ◌++◌, List, length, refl, length-append}
+use Rattle.std.proofs.lemmas.List.Edits.{sets}
+use Rattle.std.proofs.Math.Seq.{length-sets}
+use Rattle.format.specs.WroteLaws.{sets-append}
+use Rattle.radio_summary.specs.SummaryLaws.{all-at, lines_end, summary-length}
 use Rattle.radio_summary.proofs.Listed.{lines-more}
 
-pub ruleset pieces = (wrote_then, wrote-room, length-append, nat_tests)
+-- to store two texts is to store the first, and the second after it
+pub sets-then : (l : List ℕ) (i : ℕ) (x y : List ℕ) → sets l i (x ++ y) ≡ sets (sets l i x) (i + length x) y
+sets-then l i x y = sets-append l i (i + length x) x y refl
 
-pub ruleset listed = (all-at, lines-more, lines_end, writing-next, writing-ends, writing-room)
+pub ruleset pieces = (sets-then, length-sets, length-append)
 
-pub ruleset whole = (wrote_then, wrote-room, ordered-with-blocks, summary-length)
+pub ruleset listed = (all-at, lines-more, lines_end, sets-then, length-sets, length-append)
+
+pub ruleset whole = (sets-then, length-append, summary-length)

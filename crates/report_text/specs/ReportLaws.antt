@@ -49,7 +49,7 @@ use Rattle.format.specs.Texts.{position_lines}
 use Rattle.format.specs.TextLaws.{position-lines-same, position-lines-length}
 use Rattle.report_input.specs.Input.{Block, largest_lengths}
 use Rattle.report_input.specs.InputLaws.{Fit}
-use Rattle.report_text.specs.Report.{outputs_at, outcome_text, block_text}
+use Rattle.report_text.specs.Report.{report_room, outputs_at, outcome_text, block_text}
 use Rattle.report_text.specs.Private.{slice_values, ending_of, heading_text}
 
 -- ---- room
@@ -78,6 +78,13 @@ heading-room e h k =
       line-length values (omega arith),
       length-append (line values) (bytes "position soft mark coded codedmark\n"),
     )
+
+-- the whole of an outcome, where its lines have at most 30 bytes each
+pub outcome-room : (e : Ending) (n : ℕ) (values : ℕ → List ℤ) → e.iteration ≤ 9999 → e.reason ≤ 9999
+    → n ≤ most_positions → length (position_lines values n 0) ≤ 30 * n → length (outcome_text e n values) ≤ report_room
+unfolding outcome_text
+outcome-room e n values i r m short =
+    omega (arith, heading-room e i r, m, short, length-append (heading_text e) (position_lines values n 0))
 
 -- ---- what the decoder leaves for an accepted block
 
@@ -154,6 +161,12 @@ module _ {s : Settings} {block : Block} {work : List ℤ} {after : Slices} {r : 
       position-lines-length 30 shown_values n 0 (λ i l h.
       rw (b.values i (omega arith))
       (outputs-short s block.mask (final_on s block work) i b.ceiling-le (omega (arith, b.size))))
+
+  pub outcome-short : (n : ℕ) (e : CodeEnding) → n ≡ 2 ^ s.m → r ≡ Ok e
+      → length (outcome_text (ending_of e) n shown_values) ≤ report_room
+  outcome-short n e size is =
+      outcome-room (ending_of e) n shown_values (iterations-short e is) (omega (arith, reason-le e.reason))
+      (omega (arith, b.size)) (block_room n size)
 
   pub block-text : (n : ℕ) (e : CodeEnding) → n ≡ 2 ^ s.m → r ≡ Ok e
       → outcome_text (ending_of e) n shown_values ≡ block_text s block work

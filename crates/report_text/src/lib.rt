@@ -1,51 +1,26 @@
 // The report: from the bytes of a text to the bytes of its outcome.
 // It sees `report_input`, `decoder` and `format`. It promises the text that document 01, as the requests amend it,
-// gives for every byte string, from the first byte of the lent array on, its old contents behind, and the text's
+// gives for every byte string, from the first byte of the lent array on, its old contents after it, and the text's
 // length. The array has room for every outcome.
 #![tactic(auto)]
 
-ghost use Rattle.std.specs.Prelude.{◌≡◌, ◌+◌, ◌*◌, ◌≤◌, length};
+ghost use Rattle.std.specs.Prelude.{◌≡◌, suc, ◌≤◌, length};
 ghost use Rattle.calls.specs.Bounds.{most_positions, most_workspace};
 ghost use Rattle.report_input.specs.Input.{block_of};
 ghost use Rattle.report_input.specs.InputLaws.{Fit};
-ghost use Rattle.format.specs.Decimal.{line};
-ghost use Rattle.format.specs.Texts.{position_lines};
 ghost use Rattle.format.specs.Wrote.{Wrote, Within};
-ghost use Rattle.report_text.specs.Report.{report_room, position_values};
+ghost use Rattle.format.specs.Writing.{HasRoom, Appended};
+ghost use Rattle.report_text.specs.Report.{report_room};
 ghost use Rattle.report_text.specs.Report.{outcome_text, block_text, report};
 ghost use Rattle.report_text.specs.Private.{output_values, OutputsLong, ending_of, heading_text};
 
 use calls::{MOST_POSITIONS, MOST_WORKSPACE};
 use decoder::Ending;
+use format::Cursor;
 use settings::Settings;
 
 // The room that is enough for every output.
 pub const REPORT_ROOM: usize = 32768;
-
-// The line of a position.
-fn position_line(
-    out: &mut [u8],
-    at: usize,
-    position: usize,
-    soft: i16,
-    mark: u8,
-    coded_soft: i16,
-    coded_mark: u8,
-) -> usize
-    requires { (position ≤ most_positions)
-        × (at + length (line (position_values position soft mark coded_soft coded_mark)) ≤ length out.old) }
-    ensures { Wrote out.old at
-        (line (position_values position soft mark coded_soft coded_mark)) out.new result }
-{
-    let values = [
-        position as i32,
-        soft as i32,
-        mark as i32,
-        coded_soft as i32,
-        coded_mark as i32,
-    ];
-    format::line(out, at, &values)
-}
 
 // What the decoder wrote of a block.
 #[derive(Clone, Copy)]
@@ -56,52 +31,52 @@ struct Outputs<'a> {
     coded_mark: &'a [u8],
 }
 
-// The lines of the first n positions.
-fn position_lines(out: &mut [u8], at: usize, n: usize, outputs: Outputs) -> usize
-    requires n_le_most_positions { (n ≤ most_positions) × OutputsLong n outputs }
-    requires n_in_bounds { at + length (position_lines (output_values outputs) n 0) ≤ length out.old }
-    ensures { Wrote out.old at (position_lines (output_values outputs.entry) n 0) out.new result }
-{
-    let mut end = at;
-    for i in 0..n {
-        end = position_line(
-            out,
-            end,
-            i,
-            outputs.soft[i],
-            outputs.mark[i],
-            outputs.coded_soft[i],
-            outputs.coded_mark[i],
-        );
+impl Outputs<'_> {
+    // The values of a position.
+    fn values(self, i: usize) -> [i32; 5]
+        requires { (i ≤ most_positions) × OutputsLong (suc i) self }
+        ensures { result ≡ output_values self.entry i }
+    {
+        [
+            i as i32,
+            self.soft[i] as i32,
+            self.mark[i] as i32,
+            self.coded_soft[i] as i32,
+            self.coded_mark[i] as i32,
+        ]
     }
-    end
 }
 
 // The first three lines of an outcome.
-fn heading(out: &mut [u8], ending: Ending) -> usize
-    requires { (ending.iterations ≤ 9999) × (100 ≤ length out.old) }
-    ensures { Wrote out.old 0 (heading_text (ending_of ending)) out.new result }
+fn heading(text: &mut Cursor, ending: Ending)
+    requires iterations_bound { ending.iterations ≤ 9999 }
+    requires room { HasRoom text.old (heading_text (ending_of ending)) }
+    ensures { Appended text.old (heading_text (ending_of ending)) text.new }
 {
-    let end = format::copy(out, 0, b"iterations reason\n");
-    let values = [
+    text.copy(b"iterations reason\n");
+    text.line(&[
         ending.iterations as i32,
         decoder::reason_number(ending.reason) as i32,
-    ];
-    let end = format::line(out, end, &values);
-    format::copy(out, end, b"position soft mark coded codedmark\n")
+    ]);
+    text.copy(b"position soft mark coded codedmark\n");
 }
 
 // An outcome: its ending, and the first n elements of the decoder's outputs.
-fn outcome(out: &mut [u8], n: usize, ending: Ending, outputs: Outputs) -> usize
-    requires iterations_bound { (ending.iterations ≤ 9999) × (report_room ≤ length out.old) }
+fn outcome(text: &mut Cursor, n: usize, ending: Ending, outputs: Outputs)
+    requires iterations_bound { ending.iterations ≤ 9999 }
     requires n_le_most_positions { (n ≤ most_positions) × OutputsLong n outputs }
-    requires n_len_bound { length (position_lines (output_values outputs) n 0) ≤ 30 * n }
-    ensures wrote { Wrote out.old 0
-        (outcome_text (ending_of ending) n (output_values outputs.entry)) out.new result }
-    ensures upper_bound { result ≤ report_room }
+    requires room { HasRoom text.old (outcome_text (ending_of ending) n (output_values outputs)) }
+    ensures { Appended text.old
+        (outcome_text (ending_of ending) n (output_values outputs.entry)) text.new }
 {
-    let end = heading(out, ending);
-    position_lines(out, end, n, outputs)
+    heading(text, ending);
+    text.position_lines(
+        n,
+        |i|
+            requires { (i ≤ most_positions) × OutputsLong (suc i) outputs }
+            ensures { result ≡ output_values outputs.entry i }
+        { outputs.values(i) },
+    );
 }
 
 // The outcome of an accepted block, in a workspace with room for every block.
@@ -137,7 +112,9 @@ fn decoded(out: &mut [u8], settings: Settings, mask: &[u8], llr: &[i16], work: &
                 coded_soft: &coded_soft,
                 coded_mark: &coded_mark,
             };
-            outcome(out, n, ending, outputs)
+            let mut report = Cursor::new(out);
+            outcome(&mut report, n, ending, outputs);
+            report.count()
         }
     }
 }

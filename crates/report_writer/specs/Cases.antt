@@ -24,7 +24,7 @@ pub written : tidy_text usual pair
 unfolding digits decimal shown line position_lines tidy_text
 written = refl
 
--- what stands behind the two positions is not written
+-- what stands after the two positions is not written
 pub longer : tidy_text usual (block_of (1 ∷ 0 ∷ 2 ∷ []) (pos 5 ∷ negsuc 2 ∷ negsuc 32767 ∷ [])) ≡ tidy_text usual pair
 unfolding digits decimal shown line position_lines tidy_text
 longer = refl

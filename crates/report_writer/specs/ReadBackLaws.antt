@@ -90,7 +90,7 @@ natural-back n s h e =
 digit_not : (b c : ℕ) → is_digit b ≡ true → c < 48 → eqb b c ≡ false
 digit_not b c h l = let r = digit-range b h in ne_eqb b c (λ e. omega arith)
 
--- a number of at most six digits, where no digit stands behind it
+-- a number of at most six digits, where no digit stands after it
 pub number-back : (z : ℤ) (s : List ℕ) → nat_abs z ≤ 999999 → is_digit (first s) ≡ false
     → number (shown z ++ s) ≡ found z s
 unfolding number shown
@@ -118,7 +118,7 @@ separator-back (z ∷ zs) s =
     ap (found tt) (spaces-end (format.line (z ∷ zs) ++ s)
     (rw (line-front z zs s) (first-shown z (behind zs ∷ (format.line zs ++ s)))))
 
--- no digit stands behind a value
+-- no digit stands after a value
 behind-no-digit : (zs : List ℤ) → is_digit (behind zs) ≡ false
 behind-no-digit [] = refl
 behind-no-digit (z ∷ zs) = refl

@@ -68,7 +68,7 @@ module _ (s : Settings) (b : Block) (none : block_number s b ≡ 0) where
 
 -- ---- how long it is
 
--- the bytes of a line: those of its values, and one behind each
+-- the bytes of a line: those of its values, and one after each
 abbrev line_bytes : List ℤ → ℕ
 line_bytes [] = 0
 line_bytes (z ∷ zs) = length (shown z) + 1 + line_bytes zs

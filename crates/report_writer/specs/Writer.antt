@@ -52,7 +52,7 @@ write_answer_by (suc number) length = rejected (suc number)
 abbrev pub write_answer : Settings → Block → List ℕ → WriteAnswer
 write_answer s b old = write_answer_by (write_number s b (length old)) (length (tidy_text s b))
 
--- the text from the first byte on; bytes behind it, and all bytes after a refusal, as they were
+-- the text from the first byte on; bytes after it, and all bytes after a refusal, as they were
 abbrev pub text_after : Settings → Block → List ℕ → List ℕ
 text_after s b old = unless_refused (write_number s b (length old)) (written_over (tidy_text s b) old) old
 

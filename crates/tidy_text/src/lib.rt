@@ -1,7 +1,7 @@
 // The tidy form of a text: from the bytes of a text to the bytes of the one text of its settings and block.
 // It sees `report_input`, `report_writer` and `format`, and `report_text` for its laws. It promises, for every byte
 // string, the tidy text of what it means, or its refusal as the report prints it, from the first byte of the lent array
-// on, the old contents behind, and the length. The array has room for every one.
+// on, the old contents after it, and the length. The array has room for every one.
 #![tactic(auto)]
 
 ghost use Rattle.std.specs.Prelude.{◌≡◌, ◌≤◌, length};

@@ -1,53 +1,28 @@
--- `outcome` meets its contract.
-use Prim.Native.Nat.{◌≤◌}
-use native.Mathlib.Omega.{arith}
-use Rattle.format.specs.WroteLaws.{wrote_then, wrote-length}
-use Rattle.report_text.specs.ReportLaws.{reason-le, heading-room}
+-- `outcome` meets its contract: the heading, and the lines after it.
+use Rattle.std.proofs.Common.{rules, arith}
+use contract.BorrowLft.{⊑_meet, ⊑_static}
+use Rattle.format.specs.WritingLaws.{appended_then, room-before, room-after}
 use Rattle.report_text.specs.Report.{outcome_text}
-use Rattle.report_text.specs.Private.{ending_of}
 use Rattle.report_text.proofs.outcome.Goals as goal
 
-pub position_lines-requires-clause-n_in_bounds : goal.position_lines-requires-clause-n_in_bounds
-position_lines-requires-clause-n_in_bounds c =
-    let heading-end : c.heading-end.result ≤ 65 = let a = c.args in
-    omega (
-      arith,
-      c.heading-end.ensures.next-is,
-      heading-room (ending_of a.ending) c.requires.iterations_bound.0
-          (omega (arith, reason-le a.ending.reason)),
-    ) in
-    let pre = c.requires in
-    (omega (
-      arith,
-      heading-end,
-      wrote-length c.heading-end.ensures,
-      pre.iterations_bound.1,
-      pre.n_le_most_positions.0,
-      pre.n_len_bound,
-    ))
-
-pub returns-clause-wrote : goal.returns-clause-wrote
+pub heading-requires-clause-room : goal.heading-requires-clause-room
 unfolding outcome_text
-returns-clause-wrote c =
-    let heading-end : c.heading-end.result ≤ 65 = let a = c.args in
-    omega (
-      arith,
-      c.heading-end.ensures.next-is,
-      heading-room (ending_of a.ending) c.requires.iterations_bound.0
-          (omega (arith, reason-le a.ending.reason)),
-    ) in
-    let pre = c.requires in let written = c.position_lines.ensures in (wrote_then c.heading-end.ensures written)
+heading-requires-clause-room c = search room-before
 
-pub returns-clause-upper_bound : goal.returns-clause-upper_bound
+pub position_lines-requires : goal.position_lines-requires
 unfolding outcome_text
-returns-clause-upper_bound c =
-    let heading-end : c.heading-end.result ≤ 65 = let a = c.args in
-    omega (
-      arith,
-      c.heading-end.ensures.next-is,
-      heading-room (ending_of a.ending) c.requires.iterations_bound.0
-          (omega (arith, reason-le a.ending.reason)),
-    ) in
-    let pre = c.requires in
-    let written = c.position_lines.ensures in
-    (omega (arith, written.next-is, heading-end, pre.n_le_most_positions.0, pre.n_len_bound))
+position_lines-requires c κs within =
+    let long = c.requires.n_le_most_positions in (
+      search rules,
+      (
+        search (⊑_meet, ⊑_static) depth 12,
+        (
+          λ i l. omega (arith, long),
+          (λ i zs l e. e, search room-after),
+        ),
+      ),
+    )
+
+pub returns : goal.returns
+unfolding outcome_text
+returns c = appended_then c.heading.ensures c.position_lines.ensures
