@@ -23,7 +23,7 @@ pub fn small_blocks(rt: &impl Print) -> io::Result<()> {
     encode::<2, _>(rt, 1, &[0, 0], &[0, 1])
 }
 
-// Mask and message are longer than needed, and what lies behind is no bit: it is not read.
+// Mask and message are longer than needed, and the rest is no bit: it is not read.
 pub fn longer(rt: &impl Print) -> io::Result<()> {
     encode::<10, _>(rt, 3, &[1, 1, 1, 0, 1, 0, 0, 0, 7], &[1, 0, 1, 1, 7])
 }

@@ -31,7 +31,7 @@ pub fn gaussian(rt: &impl Print) -> io::Result<()> {
     front::<8, _>(rt, text, 3, 31, Channel::Gaussian(1.0), &halves)
 }
 
-// Either zero gives 0. A NaN behind the block is not read.
+// Either zero gives 0. A NaN after the block is not read.
 pub fn signs(rt: &impl Print) -> io::Result<()> {
     let samples = [0.1, -7.0, 0.0, -0.0, f32::NAN];
     let flipping = "flipping 2.5 samples 0.1 -7 0 -0 (nan)";

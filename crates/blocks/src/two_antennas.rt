@@ -30,7 +30,7 @@ fn receiver(first: f32, second: f32) -> Receiver {
     Receiver { first, second }
 }
 
-// Each factor is its own branch's, and halves of the sum go away from zero. A NaN behind the block is not read.
+// Each factor is its own branch's, and halves of the sum go away from zero. A NaN after the block is not read.
 pub fn sums(rt: &impl Print) -> io::Result<()> {
     let text = "1 2 samples 1 0 0.25 -0.25 (nan), 0 -1 0.125 -0.125";
     let first = [1.0, 0.0, 0.25, -0.25, f32::NAN];

@@ -15,7 +15,7 @@ ghost use Rattle.std.specs.Counts.{IsPrefixLen};
 use calls::Refusal;
 use std::convert::AsSlice;
 use std::fmt::Display;
-use std::io::{Eprint, Input, Print, Read};
+use std::io::{Input, Print, Read};
 use std::{fmt, io};
 
 // The bytes of a reader to its end, or as many as the slice has room for: how many that is.
@@ -37,29 +37,35 @@ fn read_all<R: Read>(input: &mut R, text: &mut [u8]) -> io::Result<usize>
     Ok(n)
 }
 
-// On standard error: the program's name, and what went wrong.
-fn complain(rt: &impl Eprint, program: &str, what: &str) {
-    let _ = eprintln!(rt; "{program}: {what}");
+// On standard error: the program's name, and what went wrong. A name is bytes, which need not be text, so that it isn't
+// printed by `Display`.
+fn complain(errors: &impl Print, program: &[u8], what: &[u8]) {
+    let _ = errors.write_all(program);
+    let _ = errors.write_all(what);
 }
 
 // The text to its end, or as much of it as the slice has room for, and how many bytes that is. A read that fails leaves
 // no text.
-pub fn read_text(rt: &(impl Input + Eprint), program: &str, text: &mut [u8]) -> usize
+pub fn read_text(rt: &HostRuntime, program: &[u8], text: &mut [u8]) -> usize
     ensures { IsPrefixLen result text.new }
 {
     match read_all(&mut rt.reader(), text) {
         Ok(n) => n,
         Err(_) => {
-            complain(rt, program, "standard input can't be read");
+            complain(&rt.stderr(), program, b": standard input can't be read\n");
             0
         }
     }
 }
 
 // The whole outcome of a program.
-pub fn write_text(rt: &(impl Print + Eprint), program: &str, bytes: &[u8]) {
+pub fn write_text(rt: &HostRuntime, program: &[u8], bytes: &[u8]) {
     if rt.write_all(bytes).is_err() {
-        complain(rt, program, "standard output can't be written");
+        complain(
+            &rt.stderr(),
+            program,
+            b": standard output can't be written\n",
+        );
     }
 }
 
@@ -86,9 +92,8 @@ pub fn answer(rt: &impl Print, answer: Result<(), Refusal>) {
 // A program that makes one text of another: the text from standard input, in the slice that is lent for it, and what
 // the function writes of it at the start of the array to standard output. No clause speaks of what is read and written:
 // that the function is handed the one, and the other handed on, is in the three lines.
-pub fn filter<R, B, F>(rt: &R, program: &str, text: &mut [u8], out: &mut B, write: F)
+pub fn filter<B, F>(rt: &HostRuntime, program: &[u8], text: &mut [u8], out: &mut B, write: F)
 where
-    R: Input + Print + Eprint,
     B: AsSlice<u8>,
     F: FnOnce(&[u8], &mut B) -> usize,
     requires callable { F.IsAlwaysCallable write }

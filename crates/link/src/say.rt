@@ -11,7 +11,7 @@ pub fn outcome(rt: &impl Print, outcome: Result<Ending, Refusal>) -> io::Result<
             " answer {iterations} {}",
             decoder::reason_number(reason)
         ),
-        Err(refusal) => print!(rt; " answer refused {}", calls::refusal_number(refusal)),
+        Err(refusal) => print!(rt; " answer refused {}", refusal as u32),
     }
 }
 

@@ -103,7 +103,7 @@ pub fn four_positions(rt: &impl Print) -> io::Result<()> {
     decode::<5, 25, _>(rt, "P8", settings, &[1, 1, 1, 0], &[1, 2, 3, 4])
 }
 
-// A mask and LLRs that are longer than needed: what lies behind is not read.
+// A mask and LLRs that are longer than needed: the rest is not read.
 pub fn longer(rt: &impl Print) -> io::Result<()> {
     pair(rt, "accepted", of(16, 3, 0, 0), &[1, 0, 7], &[5, -3, 99])
 }

@@ -4,7 +4,7 @@ use report_text::REPORT_ROOM;
 use std::fmt::Write;
 use std::io;
 
-// A whole text, behind a line that says what it shows.
+// A whole text, after a line that says what it shows.
 pub fn report(rt: &impl Print, about: &str, text: &str) -> io::Result<()> {
     let mut out = [0; REPORT_ROOM];
     println!(rt; "{about}")?;
