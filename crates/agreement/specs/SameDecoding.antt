@@ -34,7 +34,7 @@ abbrev pub reading_under : ℕ → Reading Settings → Reading Settings
 reading_under criterion reading = bind reading (λ s rest. found (under criterion s) rest)
 
 -- two texts, both too long or neither, whose first three lines say the same but for the criterion, 4 in the first and 2
--- in the second, with the same bytes behind them; or whose first three lines are both malformed
+-- in the second, with the same bytes after them; or whose first three lines are both malformed
 pub record TextsDiffer (reading : Reading Settings) (text text' : List ℕ) : Type 0 where
   pub four : head text ≡ reading_under 4 reading
   pub two : head text' ≡ reading_under 2 reading

@@ -1,16 +1,13 @@
 -- The promise of a decoding call from its ways: refused before the decoder is called, decoded, and decoded for the
 -- tally of a radio.
-use Prim.Native.Nat.{ℕ, suc, ◌+◌, ◌*◌, ◌≤◌}
-use mathlib.Core.Path.{◌≡◌, subst, sym, ap, ◌∙◌}
-use mathlib.Core.Bool.{true, false}
-use mathlib.Core.List.{List, ◌++◌}
-use borrow.Author.Tests.{le-leb, ltb-true}
-use lib.Dec.{ltb}
-use lib.IntN.{ℤ}
-use lib.ListN.{length, set, take, drop}
+use Rattle.std.proofs.Common.{ℕ, suc, ◌+◌, ◌*◌, ◌≤◌, ℤ, ◌≡◌, subst, sym, ap, ◌∙◌, true, false, ltb, le-leb}
+use Rattle.std.proofs.Common.{List, ◌++◌, length, set, take, drop}
+use Rattle.std.specs.List.{between}
+use borrow.Author.Rules.{part_to_end}
+use borrow.Author.Tests.{ltb-true}
 use Rattle.settings.specs.declared.Settings.{Settings}
 use Rattle.settings.specs.Slices.{Slices}
-use Rattle.decoder.specs.Decoder.{Outcome, Result, result_of, Decoded}
+use Rattle.decoder.specs.Decoder.{Result, result_of}
 use Rattle.tally.specs.declared.Tally.{Tally}
 use Rattle.tally.specs.declared.Tallied.{Tallied}
 use Rattle.tally.specs.Tally.{tally_number, tally_by, TalliedDecode}
@@ -51,32 +48,12 @@ module _ (first : ℕ) (settings mask : List ℕ) (llr : List ℤ) (before : Len
   pub call-refused : {number : ℕ} → first ≡ suc number → DecodeCall first settings mask llr before before (suc number)
   call-refused h = record { number_is = rw h; lent_is = rw h }
 
-  pub call-decoded : {x : Slices} {iterations reason r : ℕ} {s : Settings} {o : Outcome} → first ≡ 0
-      → s ≡ settings_in settings
-      → Decoded s mask llr before.slices x o
-      → ResultOut (result_of o) before.iterations before.reason iterations reason r
-      → DecodeCall first settings mask llr before (lent x iterations reason) r
-  call-decoded {x} {s = s} {o = o} h e given out =
-      let d = subst (λ (y : Settings). Decoded y mask llr before.slices x o) e given in
-      record {
-        number_is = out.0 ∙ rw (h, d.answer);
-        lent_is = lent_same (d.slices ∙ rw h) (out.1.0 ∙ rw (h, d.answer)) (out.1.1 ∙ rw (h, d.answer));
-      }
-
 -- both lists are long enough
 pub lists-accepted : (tallies settings : List ℕ) → tallies_length ≤ length tallies → settings_list_number settings ≡ 0
     → lists_number tallies settings ≡ 0
 lists-accepted tallies settings long listed = rw (le-leb tallies_length (length tallies) long) listed
 
 module _ (radio : ℕ) (tallies settings mask : List ℕ) (llr : List ℤ) (before : Lent) where
-  -- 7, for either list
-  pub lists-refused : {number : ℕ} → lists_number tallies settings ≡ suc number
-      → RadioCall radio tallies tallies settings mask llr before before (suc number)
-  lists-refused h = record {
-    call = call-refused (radio_first_number radio tallies settings) settings mask llr before (rw h);
-    tallies-are = rw h;
-  }
-
   module _ (lists : lists_number tallies settings ≡ 0) (long : tallies_length ≤ length tallies) where
     -- 16
     pub radio-refused : ltb radio radio_count ≡ false
@@ -122,11 +99,12 @@ module _ (radio : ℕ) (tallies settings mask : List ℕ) (llr : List ℤ) (befo
           tallies-are = stored ∙ list-after o.tally _ d.tally-is;
         }
 
-        pub radio-counted : {t : Tally} {s : Settings} → t ≡ tally_in (drop (tally_length * radio) tallies)
+        pub radio-counted : {t : Tally} {s : Settings}
+            → t ≡ tally_in (between (tally_length * radio) (length tallies) tallies)
             → s ≡ settings_in settings → TalliedDecode t s mask llr before.slices x o
             → RadioCall radio tallies tallies' settings mask llr before (lent x iterations reason) r
         radio-counted {t} {s} f e d =
             counted-call
             (subst (λ (y : Tally). TalliedDecode y (settings_in settings) mask llr before.slices x o)
-            (f ∙ sym (own_read tallies radio (ltb-true radio radio_count known)))
+            (f ∙ rw part_to_end (sym (own_read tallies radio (ltb-true radio radio_count known))))
             (subst (λ (y : Settings). TalliedDecode t y mask llr before.slices x o) e d))

@@ -26,7 +26,7 @@ pub six-settings : settings_list_number (1 ∷ 31 ∷ 16 ∷ 10 ∷ 1 ∷ 0 ∷ 
 six-settings = refl
 
 -- a list of tallies in which radio 1 has 2 1 0 1 9, radio 2 has 1 0 0 0 0, which 15 refuses, and radio 63 has
--- 1 0 1 0 7; with one element more behind them
+-- 1 0 1 0 7; with one element more after them
 abbrev tallies : List ℕ
 tallies =
     0 ∷ 0 ∷ 0 ∷ 0 ∷ 0 ∷ 2 ∷ 1 ∷ 0 ∷ 1 ∷ 9 ∷ 1 ∷ 0 ∷ 0 ∷ 0 ∷ 0
@@ -46,7 +46,7 @@ pub first-numbers : map (λ radio. radio_first_number radio tallies six) (0 ∷ 
     ≡ 0 ∷ 0 ∷ 15 ∷ 0 ∷ 0 ∷ 16 ∷ 16 ∷ []
 first-numbers = refl
 
--- an ending by the limit for radio 1 and a refusal for radio 63; the others, and the element behind, stay
+-- an ending by the limit for radio 1 and a refusal for radio 63; the others, and the element after them, stay
 pub ending-counted : tallies_list_after 1 tallies six (ended 10 2)
     ≡ 0 ∷ 0 ∷ 0 ∷ 0 ∷ 0 ∷ 3 ∷ 1 ∷ 1 ∷ 1 ∷ 19 ∷ drop 10 tallies
 ending-counted = refl

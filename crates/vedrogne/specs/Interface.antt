@@ -54,7 +54,7 @@ tally_in l =
 abbrev pub tally_list : Tally → List ℕ
 tally_list t = t.blocks ∷ t.by_criterion ∷ t.by_limit ∷ t.refusals ∷ t.iterations ∷ []
 
--- n tallies, one behind the other: radio r has the elements 5r to 5r + 4
+-- n tallies, one after the other: radio r has the elements 5r to 5r + 4
 abbrev pub tallies_from : ℕ → List ℕ → List Tally
 tallies_from zero l = []
 tallies_from (suc n) l = tally_in l ∷ tallies_from n (drop tally_length l)
@@ -62,7 +62,7 @@ tallies_from (suc n) l = tally_in l ∷ tallies_from n (drop tally_length l)
 abbrev pub tallies_in : List ℕ → List Tally
 tallies_in = tallies_from radio_count
 
--- each tally in its five elements, the old contents behind them
+-- each tally in its five elements, the old contents after them
 abbrev pub tallies_out : List Tally → List ℕ → List ℕ
 tallies_out [] old = old
 tallies_out (t ∷ tallies) old = tally_list t ++ tallies_out tallies (drop tally_length old)

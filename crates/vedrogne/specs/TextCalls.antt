@@ -15,7 +15,7 @@ abbrev pub unless_short : ℕ → Meaning → Meaning
 unless_short zero means = means
 unless_short (suc number) means = refused (suc number)
 
--- the list of settings: all of them in its first elements, the old contents behind
+-- the list of settings: all of them in its first elements, the old contents after them
 abbrev pub settings_after : Meaning → List ℕ → List ℕ
 settings_after (refused number) old = old
 settings_after (block s b) old = written_over (settings_list s) old

@@ -63,16 +63,16 @@ fn settings_in(settings: &[u32]) -> Result<Settings, Refusal>
         (λ values. (settings_list_number settings.now ≡ 0) × (values ≡ settings_in settings.now))
         (λ refusal. settings_list_number settings.now ≡ refusal_number refusal) }
 {
-    if settings.len() < SETTINGS_LENGTH {
+    let &[m, ceiling, scale, limit, criterion, operand, ..] = settings else {
         return Err(Refusal::ShortSlice);
-    }
+    };
     Ok(Settings {
-        m: settings[0],
-        ceiling: settings[1],
-        scale: settings[2],
-        limit: settings[3],
-        criterion: settings[4],
-        operand: settings[5],
+        m,
+        ceiling,
+        scale,
+        limit,
+        criterion,
+        operand,
     })
 }
 
@@ -91,30 +91,36 @@ fn settings_out(values: Settings, settings: &mut [u32])
     ]);
 }
 
-// The tally whose five numbers begin at an element.
-fn tally_in(tallies: &[u32], at: usize) -> Tally
-    requires { at + tally_length ≤ length tallies.now }
-    ensures { result ≡ tally_in (drop at tallies.now) }
+// The tally of the first five numbers.
+fn tally_in(tallies: &[u32]) -> Tally
+    requires { tally_length ≤ length tallies.now }
+    ensures { result ≡ tally_in tallies.now }
 {
+    let &[blocks, by_criterion, by_limit, refusals, iterations, ..] = tallies else {
+        unreachable!()
+    };
     Tally {
-        blocks: tallies[at],
-        by_criterion: tallies[at + 1],
-        by_limit: tallies[at + 2],
-        refusals: tallies[at + 3],
-        iterations: tallies[at + 4],
+        blocks,
+        by_criterion,
+        by_limit,
+        refusals,
+        iterations,
     }
 }
 
+// Its five numbers, from an element on.
 fn tally_out(counts: Tally, tallies: &mut [u32], at: usize)
     requires { at + tally_length ≤ length tallies.old }
     ensures { tallies.new
         ≡ take at tallies.old ++ tally_list counts ++ drop (at + tally_length) tallies.old }
 {
-    tallies[at] = counts.blocks;
-    tallies[at + 1] = counts.by_criterion;
-    tallies[at + 2] = counts.by_limit;
-    tallies[at + 3] = counts.refusals;
-    tallies[at + 4] = counts.iterations;
+    tallies[at..at + TALLY_LENGTH].copy_from_slice(&[
+        counts.blocks,
+        counts.by_criterion,
+        counts.by_limit,
+        counts.refusals,
+        counts.iterations,
+    ]);
 }
 
 // Iteration and reason are written only where the decoder ended.
@@ -194,7 +200,7 @@ pub fn vedrogne_decode_radio(
         return Err(Refusal::RadioNumber);
     }
     let at = TALLY_LENGTH * radio as usize;
-    let Tallied { tally, outcome } = tally_in(tallies, at).decode(
+    let Tallied { tally, outcome } = tally_in(&tallies[at..]).decode(
         settings, mask, llr, soft, mark, coded_soft, coded_mark, work,
     );
     tally_out(tally, tallies, at);

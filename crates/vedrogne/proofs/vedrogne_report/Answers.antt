@@ -4,6 +4,4 @@ use Rattle.vedrogne.proofs.TextPromises.{report-done}
 use Rattle.vedrogne.proofs.vedrogne_report.Goals as goal
 
 pub returns : goal.returns
-returns c =
-    report-done (omega (arith, c.if-out-lt-REPORT_ROOM.false)) c.report_into.ensures.wrote
-    c.report_into.ensures.upper_bound
+returns c = report-done (omega arith) c.report_into.ensures.wrote c.report_into.ensures.upper_bound
