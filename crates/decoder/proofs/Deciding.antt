@@ -77,7 +77,8 @@ module _ {s : Settings} {mask : List ℕ} {llr : List ℤ} {lent : Slices} {work
           }
 
       -- the same under a criterion that never holds
-      pub decoded-limit : criterion_of s ≡ Never → EndsAs s mask (limit_of s) started x r → Decoded s mask llr lent x (Ok r)
+      pub decoded-limit : criterion_of s ≡ Never → EndsAs s mask (limit_of s) started x r
+          → Decoded s mask llr lent x (Ok r)
       decoded-limit never ends =
           decoded-run
           (subst (λ (e : Ending). EndsAs s mask e started x r)
