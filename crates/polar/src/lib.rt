@@ -198,7 +198,9 @@ fn butterflies(block: &mut [u8], m: u32, t: u32)
     }
 }
 
-// The first steps of the transform, over the distances 2^(m-1), 2^(m-2), and so on.
+// The first steps of the transform, over the distances 2^(m-1), 2^(m-2), and so on. Not inlined, so that the loop over
+// the sixteens has the registers to itself.
+#[inline(never)]
 fn first_steps(block: &mut [u8], m: u32, count: u32)
     requires m_le_largest_m { (m ≤ largest_m) × (count ≤ m) }
     requires bits { Bits (2 ^ m) block.old }

@@ -38,7 +38,8 @@ pub fn get(work: &[i16], at: usize, i: usize) -> i16
 
 // One step. Eight messages fill a register: runs of eight and more go eight pairs at a time; over shorter distances a
 // register holds both sides of its pairs, and each distance has the shape that reads and writes whole registers; blocks
-// of fewer than eight positions go pair by pair.
+// of fewer than eight positions go pair by pair. Inlined, so that a step's numbers stay in registers.
+#[inline(always)]
 fn row_step(rule: MinSum, step: Step, work: &mut [i16])
     requires { WorkspaceValid rule step.m work.old }
     ensures { work.new
