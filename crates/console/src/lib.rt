@@ -3,19 +3,19 @@
 // It sees `calls` and the standard streams.
 // Proved: every function ends, and stays within its memory; of a reader whose bytes are known, the bytes that
 // `read_all` counts are the next of them, in their order, and where there was room for more they are all; `read_text`
-// counts bytes of its slice.
+// counts bytes of its slice; what prints through `IgnoringErrors` never hears of a failure.
 // By inspection and test: that standard input is such a reader, that what is handed to standard output arrives, and the
 // lines on standard error. The tests compare what the programs write with stored outputs.
 #![tactic(auto)]
 
-ghost use Rattle.std.specs.Prelude.{◌≡◌, ℕ, ◌<◌, ◌≤◌, IfOk, length, take};
+ghost use Rattle.std.specs.Prelude.{◌≡◌, ℕ, ◌<◌, ◌≤◌, IfOk, IsOk, length, take};
 ghost use Rattle.std.specs.Io.KnownBytes.{Consumes, IsAtEnd};
 ghost use Rattle.std.specs.Counts.{IsPrefixLen};
 
 use calls::Refusal;
 use std::convert::AsSlice;
 use std::fmt::Display;
-use std::io::{Input, Print, Read};
+use std::io::{Print, Read};
 use std::{fmt, io};
 
 // The bytes of a reader to its end, or as many as the slice has room for: how many that is.
@@ -49,7 +49,7 @@ fn complain(errors: &impl Print, program: &[u8], what: &[u8]) {
 pub fn read_text(rt: &HostRuntime, program: &[u8], text: &mut [u8]) -> usize
     ensures { IsPrefixLen result text.new }
 {
-    match read_all(&mut rt.reader(), text) {
+    match read_all(&mut rt.stdin(), text) {
         Ok(n) => n,
         Err(_) => {
             complain(&rt.stderr(), program, b": standard input can't be read\n");
@@ -66,6 +66,34 @@ pub fn write_text(rt: &HostRuntime, program: &[u8], bytes: &[u8]) {
             program,
             b": standard output can't be written\n",
         );
+    }
+}
+
+// Standard output for a program whose stored output shows what is missing: no write answers that it failed, so that what
+// comes after it is written all the same.
+#[derive(Drop)]
+pub struct IgnoringErrors<'a, P>(pub &'a P);
+
+impl<P: Print> Print for IgnoringErrors<'_, P> {
+    fn print<D: Display + Drop>(&self, value: D) -> io::Result<()>
+        ensures { IsOk result }
+    {
+        let _ = self.0.print(value);
+        Ok(())
+    }
+
+    fn println<D: Display + Drop>(&self, value: D) -> io::Result<()>
+        ensures { IsOk result }
+    {
+        let _ = self.0.println(value);
+        Ok(())
+    }
+
+    fn write_all(&self, bytes: &[u8]) -> io::Result<()>
+        ensures { IsOk result }
+    {
+        let _ = self.0.write_all(bytes);
+        Ok(())
     }
 }
 
