@@ -69,8 +69,8 @@ pub fn write_text(rt: &HostRuntime, program: &[u8], bytes: &[u8]) {
     }
 }
 
-// Standard output for a program whose stored output shows what is missing: no write answers that it failed, so that what
-// comes after it is written all the same.
+// Standard output for a program whose stored output shows what is missing: no write answers that it failed, so that
+// what comes after it is written all the same.
 #[derive(Drop)]
 pub struct IgnoringErrors<'a, P>(pub &'a P);
 
