@@ -3,7 +3,7 @@
 // It sees `calls` and the standard streams.
 // Proved: every function ends, and stays within its memory; of a reader whose bytes are known, the bytes that
 // `read_all` counts are the next of them, in their order, and where there was room for more they are all; `read_text`
-// counts bytes of its slice; what prints through `IgnoringErrors` never hears of a failure.
+// counts bytes of its slice; a print through `IgnoringErrors` never answers that it failed.
 // By inspection and test: that standard input is such a reader, that what is handed to standard output arrives, and the
 // lines on standard error. The tests compare what the programs write with stored outputs.
 #![tactic(auto)]
