@@ -42,9 +42,9 @@ module _ (C n : ℕ) (d : ℤ) (high : C ≤ largest_ceiling) (v : n * up d ≡ 
     abbrev by-reach : Bool → ℤ
     by-reach b = flipped s (pos (cond b C (nearest (m * up e) (down e))))
 
-    more : n * up d * down e < m * up e * down d → C * down e ≤ m * up e
-    more h =
-        let k : C * down d * down e < m * up e * down d = rw v at h in
+    no_less : n * up d * down e ≤ m * up e * down d → C * down e ≤ m * up e
+    no_less h =
+        let k : C * down d * down e ≤ m * up e * down d = rw v at h in
         let g : C * down e * down d ≤ m * up e * down d = omega arith in
         le_of_mul-le-mul_right g (down_pos d)
 
@@ -62,14 +62,17 @@ module _ (C n : ℕ) (d : ℤ) (high : C ≤ largest_ceiling) (v : n * up d ≡ 
         ap (λ (t : ℕ). flipped s (pos t)) (rw same (nearest-whole C (down e) (down_pos e)))
     kept false q l = refl
 
+    cut_to_top : n * up d * down e ≤ m * up e * down d → CutWell C (fin s m e) (fin s n d)
+    unfolding is_within whole_of quantised
+    cut_to_top h = (
+      (top-well s).0,
+      (top-well s).1 ∙ ap by-reach (sym (le-leb (C * down e) (m * up e) (no_less h))),
+    )
+
     sizes : (b : Bool) → ltb (n * up d * down e) (m * up e * down d) ≡ b
         → CutWell C (fin s m e) (cond b (fin s n d) (fin s m e))
     unfolding is_within whole_of quantised
-    sizes true q =
-        let l : C * down e ≤ m * up e = more (ltb-true (n * up d * down e) (m * up e * down d) q) in (
-          (top-well s).0,
-          (top-well s).1 ∙ ap by-reach (sym (le-leb (C * down e) (m * up e) l)),
-        )
+    sizes true q = cut_to_top (omega (arith, ltb-true (n * up d * down e) (m * up e * down d) q))
     sizes false q =
         let l : m * up e ≤ C * down e = no_more (ltb-false (n * up d * down e) (m * up e * down d) q) in
         let k : C * down e ≤ largest_ceiling * down e = mul-le-mul_right (down e) high in
@@ -83,6 +86,19 @@ module _ (C n : ℕ) (d : ℤ) (high : C ≤ largest_ceiling) (v : n * up d ≡ 
   cut-well (fin false m e) h = sizes false m e (ltb (n * up d * down e) (m * up e * down d)) refl
   cut-well (fin true m e) h = sizes true m e (ltb (n * up d * down e) (m * up e * down d)) refl
 
+  -- what is not above the lower end is cut to it: so the cut may be written with a comparison, as some programs of
+  -- must-fail do
+  lower-well : (x : Float) → T (not (is_nan x)) → 1 ≤ C → lt (fin true n d) x ≡ false → CutWell C x (fin true n d)
+  unfolding is_nan lt quantised
+  lower-well nan h low k = absurd h
+  lower-well (inf true) h low k = top-well true
+  lower-well (inf false) h low k = absurd (true≢false k)
+  lower-well (fin false m e) h low k =
+      let above : 0 < n * up d = rw v (mul-pos low (down_pos d)) in
+      let sum = n * up d * down e + m * up e * down d in
+      absurd (true≢false (sym (lt-ltb 0 sum (omega (arith, mul-pos above (down_pos e)))) ∙ k))
+  lower-well (fin true m e) h low k = cut_to_top true m e (ltb-false (m * up e * down d) (n * up d * down e) k)
+
   -- below zero and above it
   in_order : 1 ≤ C → T (lt (fin true n d) (fin false n d))
   unfolding lt
@@ -94,19 +110,24 @@ module _ (C n : ℕ) (d : ℤ) (high : C ≤ largest_ceiling) (v : n * up d ≡ 
 -- so with the ceiling as a float
 at-top : (C : ℕ) (x top : Float) → (1 ≤ C) × (C ≤ largest_ceiling) → T (not (is_nan x)) → HasValue top false C 1
     → T (le (neg top) top) × CutWell C x (float_clamp x (neg top) top)
+    × (lt (neg top) x ≡ false → CutWell C x (neg top))
 unfolding neg
 at-top C x nan range h v = absurd v
 at-top C x (inf s) range h v = absurd v
 at-top C x (fin true n d) range h v = absurd (true≢false v.0)
 at-top C x (fin false n d) range h v =
-    let is : n * up d ≡ C * down d = sym (mul-one (n * up d)) ∙ v.1 in
-    (le_of_lt (fin true n d) (fin false n d) (in_order C n d range.1 is range.0), cut-well C n d range.1 is x h)
+    let is : n * up d ≡ C * down d = sym (mul-one (n * up d)) ∙ v.1 in (
+      le_of_lt (fin true n d) (fin false n d) (in_order C n d range.1 is range.0),
+      cut-well C n d range.1 is x h,
+      lower-well C n d range.1 is x h range.0,
+    )
 
 module _ (C : ℕ) (low : 1 ≤ C) (high : C ≤ largest_ceiling) where
   abbrev pub top : Float
   top = of_int binary32 (pos C)
 
   well : (x : Float) → T (not (is_nan x)) → T (le (neg top) top) × CutWell C x (float_clamp x (neg top) top)
+      × (lt (neg top) x ≡ false → CutWell C x (neg top))
   well x h = at-top C x top (low, high) h (top-value C high)
 
   pub cut_ordered : T (le (neg top) top)
@@ -119,4 +140,10 @@ module _ (C : ℕ) (low : 1 ≤ C) (high : C ≤ largest_ceiling) where
   pub cut_whole : (x : Float) → T (not (is_nan x)) → whole_of (float_clamp x (neg top) top) ≡ quantised C x
   cut_whole x h = (well x h).1.1
 
-pub ruleset cut_rules = (cut_ordered, cut_within, cut_whole)
+  pub lower_within : (x : Float) → T (not (is_nan x)) → lt (neg top) x ≡ false → T (is_within largest_ceiling (neg top))
+  lower_within x h k = ((well x h).2 k).0
+
+  pub lower_whole : (x : Float) → T (not (is_nan x)) → lt (neg top) x ≡ false → whole_of (neg top) ≡ quantised C x
+  lower_whole x h k = ((well x h).2 k).1
+
+pub ruleset cut_rules = (cut_ordered, cut_within, cut_whole, lower_within, lower_whole)
