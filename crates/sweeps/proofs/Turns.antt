@@ -3,7 +3,7 @@
 use Prim.Native.Nat.{ℕ, suc, ◌+◌, ◌-◌, ◌*◌, ◌/◌, ◌^◌, ◌≤◌, ◌<◌}
 use mathlib.Core.Path.{◌≡◌, refl, sym, ap, ◌∙◌}
 use mathlib.Core.List.{List}
-use native.Mathlib.Decide.{dec_lt}
+use native.Mathlib.Decide.{dec_lt, ℕ_discrete}
 use native.Mathlib.Nat.{mul_comm, mul-suc}
 use native.Mathlib.Numerals.{add-one}
 use native.Mathlib.Omega.{arith}
@@ -245,6 +245,15 @@ module _ {rule : MinSum} {m t k x y n d W : ℕ} {old w : List ℤ} (en : n ≡ 
 
   pub lower-turn : {v : List ℤ} → (bit_and p d ≡ 0 → ⊥) → v ≡ w → FilledPairs rule m t k x y (W * (r + 1)) old v
   lower-turn o e = rw (next, e) (pairs-skip (mask-set p t d ed o))
+
+  -- so either way
+  pub run-turn : {v : List ℤ} → (bit_and p d ≡ 0 → v ≡ pair_runs rule d (k * n + p) (x * n + p) (y * n + p) W w)
+      → ((bit_and p d ≡ 0 → ⊥) → v ≡ w) → FilledPairs rule m t k x y (W * (r + 1)) old v
+  run-turn {v} joined kept = by-test (ℕ_discrete (bit_and p d) 0)
+    where
+      by-test : Dec (bit_and p d ≡ 0) → FilledPairs rule m t k x y (W * (r + 1)) old v
+      by-test (yes z) = upper-turn z (joined z)
+      by-test (no o) = lower-turn o (kept o)
 
 -- the last run is of lower positions
 pub pairs-all : {rule : MinSum} {m t k x y n d W : ℕ} {old w : List ℤ} → n ≡ 2 ^ m → d ≡ 2 ^ t → (s r : ℕ) → W ≡ 2 ^ s

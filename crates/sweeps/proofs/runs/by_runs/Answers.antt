@@ -1,8 +1,9 @@
 -- `runs::by_runs` meets its contract: the upper positions of the first r runs are done, and their partners.
 use native.Mathlib.Omega.{arith}
 use borrow.Author.Rules.{rules}
+use borrow.Author.Tests.{eq-eqb, ne_eqb}
 use lib.Pow.{pow_mono}
-use Rattle.sweeps.proofs.Turns.{run-readable, run-room, upper-turn, lower-turn, pairs-all}
+use Rattle.sweeps.proofs.Turns.{run-readable, run-room, run-turn, pairs-all}
 use Rattle.sweeps.proofs.runs.by_runs.Goals as goal
 
 pub overflow_sub-r-end : goal.overflow_sub-r-end
@@ -21,17 +22,12 @@ join-requires-clause-d_in_bounds g c =
     run-room c.power_of_two-n.ensures c.power_of_two-d.ensures _ c.loop-r.r c.requires.width.0 c.requires.width.1
     (omega arith) c.args.step.rows c.loop-r.invariant (search rules)
 
+-- (No name of what the `if` leaves is cited: the text of its test makes that name, and a wrong program has another.)
 pub loop-r-preserved : goal.loop-r-preserved
 loop-r-preserved g c =
-    let upper =
-    upper-turn c.power_of_two-n.ensures c.power_of_two-d.ensures _ c.loop-r.r c.requires.width.0 c.requires.width.1
-    (omega arith) c.args.step.rows c.loop-r.invariant {v = c.if-p-d-eq0.work}
-    in
-    let lower =
-    lower-turn c.power_of_two-n.ensures c.power_of_two-d.ensures _ c.loop-r.r c.requires.width.0 c.requires.width.1
-    (omega arith) c.args.step.rows c.loop-r.invariant {v = c.if-p-d-eq0.work}
-    in
-    search (rules, upper, lower)
+    run-turn c.power_of_two-n.ensures c.power_of_two-d.ensures _ c.loop-r.r c.requires.width.0 c.requires.width.1
+    (omega arith) c.args.step.rows c.loop-r.invariant
+    (λ z. search (rules, z, eq-eqb _ 0 z)) (λ o. search (rules, o, ne_eqb _ 0 o))
 
 pub returns : goal.returns
 returns g c =
