@@ -260,10 +260,9 @@ pub fn step(
 }
 
 // The ending of a run that goes to the limit.
-fn limit_of(settings: Settings) -> Ending
-    ensures { result_of (Ok result) ≡ ended settings.limit 2 }
+fn limit_of(limit: u32) -> Ending
+    ensures { result_of (Ok result) ≡ ended limit 2 }
 {
-    let limit = settings.limit;
     Ending {
         iterations: limit,
         reason: Reason::Limit,
@@ -307,7 +306,7 @@ fn run(
         }
         memory = progress.memory;
     }
-    limit_of(settings)
+    limit_of(limit)
 }
 
 // As many iterations.
@@ -344,10 +343,9 @@ fn run_to_limit(
         result }
 {
     let m = settings.m;
-    let limit = settings.limit;
-    iterate_times(rule_of(settings), m, limit, work);
+    iterate_times(rule_of(settings), m, settings.limit, work);
     outputs(settings, mask, work, soft, mark, coded_soft, coded_mark);
-    limit_of(settings)
+    limit_of(settings.limit)
 }
 
 // Every check comes before the first write.

@@ -1,6 +1,7 @@
 -- `run` meets its contract.
 use native.Mathlib.Numerals.{add-one}
 use native.Mathlib.Omega.{arith}
+use borrow.Author.Rules.{rules}
 use Rattle.decoder.specs.RunLaws.{run-valid, run-memory}
 use Rattle.decoder.proofs.Running.{steps-ended, next-step, found}
 use Rattle.decoder.proofs.run.Goals as goal
@@ -25,4 +26,4 @@ loop-done-preserved c =
     (add-one c.loop-done.done)
 
 pub returns : goal.returns
-returns c = steps-ended _ c.loop-done.invariant (omega arith) (omega arith) c.limit_of.ensures
+returns c = steps-ended _ c.loop-done.invariant (omega arith) (omega arith) (search rules)
