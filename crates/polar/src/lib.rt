@@ -3,7 +3,7 @@
 // condition of each refusal.
 #![tactic(auto)]
 
-ghost use Rattle.std.specs.Prelude.{◌≡◌, ℕ, ◌+◌, ◌<◌, ◌≤◌, ◌^◌, leb, length, get_or};
+ghost use Rattle.std.specs.Prelude.{◌≡◌, ℕ, ◌+◌, ◌-◌, ◌<◌, ◌≤◌, ◌^◌, leb, length, get_or};
 ghost use Rattle.calls.specs.Every.{every};
 ghost use Rattle.calls.specs.Bounds.{largest_m};
 ghost use Rattle.calls.specs.Numbers.{number_of};
@@ -198,8 +198,8 @@ fn butterflies(block: &mut [u8], m: u32, t: u32)
     }
 }
 
-// The first steps of the transform, over the distances 2^(m-1), 2^(m-2), and so on. Not inlined, so that the loop over
-// the sixteens has the registers to itself.
+// The first steps of the transform, over the distances 2^(m-1), 2^(m-2), and so on. Neither this nor the next is
+// inlined, so that the loop over the sixteens has the registers to itself.
 #[inline(never)]
 fn first_steps(block: &mut [u8], m: u32, count: u32)
     requires m_le_largest_m { (m ≤ largest_m) × (count ≤ m) }
@@ -209,6 +209,20 @@ fn first_steps(block: &mut [u8], m: u32, count: u32)
 {
     for s in 0..count {
         butterflies(block, m, m - 1 - s);
+    }
+}
+
+// The steps down to the distance 16. That of the last is written out, so that the compiler joins a run at once.
+#[inline(never)]
+fn steps_to_sixteen(block: &mut [u8], m: u32)
+    requires m_le_largest_m { (m ≤ largest_m) × (4 ≤ m) }
+    requires bits { Bits (2 ^ m) block.old }
+    ensures { block.new
+        ≡ overwrite (2 ^ m) (λ i. byte_of (column m (bits_of block.old) (m - 4) i)) block.old }
+{
+    if 4 < m {
+        first_steps(block, m, m - 5);
+        butterflies(block, m, 4);
     }
 }
 
@@ -250,7 +264,7 @@ pub fn transform(block: &mut [u8], m: u32)
     if m < 4 {
         first_steps(block, m, m);
     } else {
-        first_steps(block, m, m - 4);
+        steps_to_sixteen(block, m);
         last_steps(block, m);
     }
 }
